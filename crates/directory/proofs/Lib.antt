@@ -1,0 +1,9 @@
+pub mod Each
+pub mod Rows
+pub mod Plans
+pub mod Filled
+pub mod Views
+pub mod Starts
+pub mod Setups
+pub mod Doing
+pub mod Transacting

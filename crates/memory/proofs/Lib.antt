@@ -1,0 +1,4 @@
+pub mod Blanks
+pub mod Changes
+pub mod Joining
+pub mod Packing

@@ -1,0 +1,5 @@
+pub mod Make
+pub mod Meanings
+pub mod Packing
+pub mod Places
+pub mod Words

@@ -1,0 +1,15 @@
+pub mod Lists
+pub mod Try
+pub mod Plan
+pub mod Lines
+pub mod Record
+pub mod Coordinator
+pub mod Room
+pub mod State
+pub mod Call
+pub mod Transact
+pub mod Commit
+pub mod Poll
+pub mod Step
+pub mod Kept
+pub mod Examples
