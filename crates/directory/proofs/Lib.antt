@@ -6,4 +6,6 @@ pub mod Views
 pub mod Starts
 pub mod Setups
 pub mod Doing
+pub mod Pairs
+pub mod Working
 pub mod Transacting

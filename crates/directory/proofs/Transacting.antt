@@ -38,91 +38,8 @@ use Rattle.directory.specs.Work.{Leaves}
 use Rattle.directory.specs.Sound.{Sound, Rings}
 use Rattle.directory.specs.Calls.{Does}
 use Rattle.directory.proofs.Plans.{fits-of}
-use Rattle.directory.proofs.Doing.{Inside, mine, here, refuses, only-answers, changes, rings-of}
-
-is-idle : (p : Plan) (t : Work) (ph : Phase) → ph ≡ tables.Idle → idle? (phase-of p t ph) ≡ true
-unfolding phase-of
-is-idle p t ph e = ap (λ (z : Phase). idle? (phase-of p t z)) e
-
-not-idle : (p : Plan) (t : Work) (ph : Phase) → (ph ≡ tables.Idle → ⊥) → idle? (phase-of p t ph) ≡ false
-unfolding phase-of
-not-idle p t tables.Idle n = absurd (n refl)
-not-idle p t tables.Open n = refl
-not-idle p t tables.Locking n = refl
-not-idle p t tables.Checking n = refl
-not-idle p t tables.Backing n = refl
-not-idle p t tables.Installing n = refl
-not-idle p t tables.Aborting n = refl
-
-is-open : (p : Plan) (t : Work) (ph : Phase) → ph ≡ tables.Open → opened? (phase-of p t ph) ≡ true
-unfolding phase-of
-is-open p t ph e = ap (λ (z : Phase). opened? (phase-of p t z)) e
-
-not-open : (p : Plan) (t : Work) (ph : Phase) → (ph ≡ tables.Open → ⊥) → opened? (phase-of p t ph) ≡ false
-unfolding phase-of
-not-open p t tables.Idle n = refl
-not-open p t tables.Open n = absurd (n refl)
-not-open p t tables.Locking n = refl
-not-open p t tables.Checking n = refl
-not-open p t tables.Backing n = refl
-not-open p t tables.Installing n = refl
-not-open p t tables.Aborting n = refl
-
--- the table's coordinator with another transaction
-abbrev pub with-work : Coordinator → Work → Coordinator
-with-work co t = record { work = t; logs = co .logs; queues = co .queues }
-
--- A call that changes the transaction of its coordinator, and nothing else.
-module _ (p : Plan) (w : World) (call : Call) (in′ : Inside p w (coordinator-of call)) (words : (a : ℕ) → Proper (at (w .primaries) a)) (d : Coordinator) where
-  abbrev c : ℕ
-  c = coordinator-of call
-
-  abbrev co : Coordinator
-  co = getD (w .coordinators) c d
-
-  proper : Proper-words p (w .primaries)
-  proper = record { size = fits-of p w (in′ .fits) .primaries; versions = λ a. words a .0 }
-
-  abbrev left : Work → World
-  left t = world (set (w .coordinators) c (with-work co t)) (w .records) (w .replies) (w .primaries) (w .firsts) (w .seconds)
-
-  abbrev own-left : protocol.Phase → ℕ → List Line → List Line → Local
-  own-left ph n rs ws =
-      local (record { phase = ph; next = n; reads = rs; writes = ws; logs = mine p w call in′ d .logs; queues = mine p w call in′ d .queues }) (w .primaries) (w .firsts) (w .seconds)
-
-  pub work-changes : (t : Work) (ph : Phase) (ph′ : protocol.Phase) (n : Option ℕ) (rs ws : List Line) (a b : ℕ) (o : Outcome) → Leaves t ph n rs ws → phase-of p t ph ≡ ph′
-      → (Sound p w → local-call p (here p w call in′ d) call ≡ Ok (record { answer = answered a b o; after = own-left ph′ (next-of n) rs ws }))
-      → Does p w (left t) (Ok (answered a b o)) call
-  unfolding own
-  work-changes t ph ph′ n rs ws a b o leaves same accepted =
-      changes p w call in′ proper d (with-work co t) (w .records) (w .replies) (λ j x _. refl)
-      (record { answer = answered a b o; after = own-left ph′ (next-of n) rs ws })
-      accepted
-      (λ s.
-        let e : phase-of p t (t .phase) ≡ ph′ = ap (phase-of p t) (leaves .phase) ∙ same in
-        let f : next-of (t .next) ≡ next-of n = ap next-of (leaves .next) in
-        let g = leaves .reads in
-        let h = leaves .writes in
-        cc)
-      (λ s.
-        let r = rings-of p w call in′ d s in
-        record { five-logs = r .five-logs; five-queues = r .five-queues; logs = r .logs; queues = r .queues })
-      (record { coordinators = drop-set-lt _ _ _ _ (ltb-true c (p .coordinators) (sym (in′ .below))); records = refl; replies = refl })
-
--- how many lines count
-count-reads : (t : Work) → length (reads-of t) ≡ t .nreads
-count-reads t = simp length-take (omega (arith, t .few, t .eight))
-
-count-writes : (t : Work) → length (writes-of t) ≡ t .nwrites
-count-writes t = simp length-take (omega (arith, t .fewer, t .four))
-
-as-open : (p : Plan) (t : Work) → phase-of p t tables.Open ≡ protocol.Opened
-unfolding phase-of
-as-open p t = refl
-
-as-idle : (p : Plan) (t : Work) → phase-of p t tables.Idle ≡ protocol.Idle
-unfolding phase-of
-as-idle p t = refl
+use Rattle.directory.proofs.Doing.{Inside, here, refuses, only-answers}
+use Rattle.directory.proofs.Working.{is-idle, not-idle, is-open, not-open, as-idle, as-open, count-reads, count-writes, with-work, own-left, work-changes, same-entry, leaves-stand}
 
 -- what a look found
 look-some : (ws : Words) (a v h x : ℕ) → Some (v, h, x) ≡ look-at ws a → line a v x ≡ seen ws a
@@ -214,16 +131,16 @@ module _ (p : Plan) (w : World) (c : ℕ) (in′ : Inside p w c) (e : Coordinato
     after = world (set (w .coordinators) c (with-work then t)) (w .records) (w .replies) (w .primaries) (w .firsts) (w .seconds)
 
     same : first ≡ then
-    same = getD-default (w .coordinators) c e d (omega (arith, ltb-true c (p .coordinators) (sym (in′ .below)), fits-of p w (in′ .fits) .coordinators))
+    same = same-entry p w c in′ e d
 
     pub opens : first .work .phase ≡ tables.Idle → Leaves t tables.Open (then .work .next) [] [] → Does p w after (Ok (answered 0 0 Going)) (Open c)
     unfolding own
-    opens is l = work-changes p w (Open c) in′ words d t tables.Open protocol.Opened _ [] [] 0 0 Going l (as-open p t)
+    opens is l = work-changes p w (Open c) in′ words d t protocol.Opened _ [] [] 0 0 Going (λ s. leaves-stand p t _ _ _ _ _ l (as-open p t))
         (λ s. protocol-calls.opens p _ c (is-idle p (then .work) _ (subst (λ (z : Coordinator). z .work .phase ≡ tables.Idle) same is)))
 
     pub abandons : first .work .phase ≡ tables.Open → Leaves t tables.Idle (then .work .next) (reads-of (then .work)) (writes-of (then .work)) → Does p w after (Ok (answered 0 0 Aborted)) (Abandon c)
     unfolding own
-    abandons is l = work-changes p w (Abandon c) in′ words d t tables.Idle protocol.Idle _ _ _ 0 0 Aborted l (as-idle p t)
+    abandons is l = work-changes p w (Abandon c) in′ words d t protocol.Idle _ _ _ 0 0 Aborted (λ s. leaves-stand p t _ _ _ _ _ l (as-idle p t))
         (λ s. protocol-calls.abandons p _ c (is-open p (then .work) _ (subst (λ (z : Coordinator). z .work .phase ≡ tables.Open) same is)))
 
     module _ (is : first .work .phase ≡ tables.Open) (a : ℕ) (within : a < size p) where
@@ -244,7 +161,7 @@ module _ (p : Plan) (w : World) (c : ℕ) (in′ : Inside p w c) (e : Coordinato
           → Does p w after (Ok (answered v x Going)) (Read c a)
       unfolding own
       reads-new new few v h x looked l =
-          work-changes p w (Read c a) in′ words d t _ protocol.Opened _ _ _ v x Going l stays-open
+          work-changes p w (Read c a) in′ words d t protocol.Opened _ _ _ v x Going (λ s. leaves-stand p t _ _ _ _ _ l stays-open)
           (λ s.
             let few′ : then .work .nreads < 8 = subst (λ (z : Coordinator). z .work .nreads < 8) same few in
             protocol-calls.reads-new p _ c a (is-open p (then .work) _ is-then) within (reads-then None new) (omega (arith, few′, count-reads (then .work)))
@@ -259,7 +176,7 @@ module _ (p : Plan) (w : World) (c : ℕ) (in′ : Inside p w c) (e : Coordinato
             → local-call p (here p w (Write c a v) in′ d) (Write c a v) ≡ Ok (record { answer = answered 0 0 Going; after = own-left p w (Write c a v) in′ words d (phase-of p (then .work) (then .work .phase)) (next-of (then .work .next)) (reads-of (then .work)) ws })
             → Does p w after (Ok (answered 0 0 Going)) (Write c a v)
         writes-left ws l accepted =
-            work-changes p w (Write c a v) in′ words d t _ protocol.Opened _ _ _ 0 0 Going l stays-open
+            work-changes p w (Write c a v) in′ words d t protocol.Opened _ _ _ 0 0 Going (λ s. leaves-stand p t _ _ _ _ _ l stays-open)
             (λ s. accepted
               ∙ ap (λ (ph : protocol.Phase). Ok (record { answer = answered 0 0 Going; after = own-left p w (Write c a v) in′ words d ph (next-of (then .work .next)) (reads-of (then .work)) ws }))
                 (ap (phase-of p (then .work)) is-then ∙ as-open p (then .work)))

@@ -59,7 +59,7 @@ unfoldable pub phase-of : Plan → Work → Phase → protocol.Phase
 phase-of p t Idle = protocol.Idle
 phase-of p t Open = protocol.Opened
 phase-of p t Locking = protocol.Locking (due-from p (t .due) (at-primary? p (writes-of t))) (awaited-of p t) (t .denied)
-phase-of p t Checking = protocol.Checking (drop (t .passed) (read-only (reads-of t) (writes-of t)))
+phase-of p t Checking = protocol.Checking (read-only (drop (t .passed) (reads-of t)) (writes-of t))
 phase-of p t Backing = protocol.Backing (due-from p (t .due) (at-backup? p (writes-of t)))
 phase-of p t Installing = protocol.Installing (t .reported) (due-from p (t .due) (at-primary? p (writes-of t)))
 phase-of p t Aborting = protocol.Aborting (due-from p (t .due) (at-primary? p (writes-of t)))

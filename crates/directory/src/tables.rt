@@ -17,7 +17,8 @@ pub enum Phase {
 }
 
 // A coordinator's transaction. `next` is the number that the next commit gives, nothing once the last is given;
-// records are due to the machines from `due` on; a reply is awaited from each machine that is marked; `passed` words are checked.
+// records are due to the machines from `due` on; a reply is awaited from each machine that is marked; the first `passed` reads
+// are checked or need no check.
 // The first `nreads` and `nwrites` lines count.
 #[derive(Clone, Copy)]
 pub struct Work {
