@@ -1,5 +1,4 @@
--- Every accepted call is one of these 25 moves, each with what its checks found. What all calls keep is then proved by one case for each move,
--- with no refusals and no tests left.
+-- Every accepted call is one of these 25 moves, each with what its checks found: what all calls keep is proved by one case for each move.
 use mathlib.Core.Path.{_≡_, refl}
 use mathlib.Core.Bool.{Bool, true, false, cond, not, _||_}
 use mathlib.Core.List.{List, [], _∷_}
@@ -58,8 +57,9 @@ pub record Replied (p : Plan) (x : Local) (m : ℕ) (due awaited : List ℕ) (de
   pub phase : x .own .phase ≡ Locking due awaited denied
   pub queue : queue (x .own) m ≡ r ∷ rs
 
--- Open, read, write and abandon.
+-- the accepted calls and what they leave
 pub data Move (p : Plan) (x : Local) : Call → Accepted → Type 0 where
+  -- Open, read, write and abandon.
   opens : {c : ℕ} → x .own .phase ≡ Idle → Move p x (Open c) (leaves 0 0 Going (with-own x (with-words (with-phase (x .own) Opened) [] [])))
   reads-again : {c a : ℕ} (r : Line) → x .own .phase ≡ Opened → a < size p → line-at a (x .own .reads) ≡ Some r
       → Move p x (Read c a) (leaves (r .version) (value-of r (line-at a (x .own .writes))) Going x)
