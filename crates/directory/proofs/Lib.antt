@@ -9,3 +9,6 @@ pub mod Doing
 pub mod Pairs
 pub mod Working
 pub mod Transacting
+pub mod Begun
+pub mod Rooms
+pub mod Committing

@@ -1,7 +1,7 @@
-pub mod Notes
 pub mod View
 pub mod Sound
 pub mod Fresh
 pub mod Checks
 pub mod Calls
 pub mod Work
+pub mod Commits

@@ -21,7 +21,7 @@ use Rattle.protocol.specs.Room.{at-primary?, at-backup?}
 use Rattle.protocol.specs.Commit.{read-only}
 use Rattle.protocol.specs.Coordinator as protocol
 use Rattle.protocol.specs.State.{State, state}
-use Rattle.directory.specs.Notes.{notes}
+use Rattle.handling.specs.Notes.{notes}
 use Rattle.directory.specs.declared.tables.Phase.{Phase}
 use Rattle.directory.specs.declared.tables.Phase.the-variants.{Idle, Open, Locking, Checking, Backing, Installing, Aborting}
 use Rattle.directory.specs.declared.tables.Work.{Work}

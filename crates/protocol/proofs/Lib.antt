@@ -18,3 +18,5 @@ pub mod Places
 pub mod Puts
 pub mod Tests
 pub mod Transacts
+pub mod Counting
+pub mod Begins

@@ -1,0 +1,4 @@
+mod Looking
+mod Peeks
+mod Newest
+mod Trimming

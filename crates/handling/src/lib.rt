@@ -1,0 +1,4 @@
+// What a machine does with a record, and what a coordinator sends it.
+pub mod logs;
+pub mod records;
+pub mod room;

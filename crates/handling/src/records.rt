@@ -1,0 +1,1 @@
+// The records that a coordinator sends.
