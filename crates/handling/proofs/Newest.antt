@@ -3,6 +3,7 @@ use mathlib.Core.Path.{_≡_, refl, sym, ap, _∙_}
 use mathlib.Core.Bool.{Bool, true, false, cond}
 use mathlib.Core.List.{List, [], _∷_, _++_, reverse}
 use Prim.Native.Nat.{ℕ, zero, suc, _+_, _-_, _<_, _≤_}
+use native.Mathlib.Numerals.{add-one}
 use native.Mathlib.Omega.{arith}
 use lib.ListN.{length, take, drop}
 use Rattle.std.proofs.shelf.Lists.{reverse-append}
@@ -23,6 +24,9 @@ module _ {X : Type 0} where
       ap (λ (k : ℕ). reverse (take k xs)) up
       ∙ ap reverse (take-here xs (n - 1) x rest e)
       ∙ reverse-append (take (n - 1) xs) (x ∷ [])
+
+  pub turned-more : (xs : List X) (i : ℕ) (x : X) (rest : List X) → drop i xs ≡ x ∷ rest → reverse (take (i + 1) xs) ≡ x ∷ reverse (take i xs)
+  turned-more xs i x rest e = rw add-one (ap reverse (take-here xs i x rest e) ∙ reverse-append (take i xs) (x ∷ []))
 
 module _ {X : Type 0} (p : X → Bool) (xs : List X) (n : ℕ) (x : X) (rest : List X) (l : 0 < n) (here : drop (n - 1) xs ≡ x ∷ rest) where
   pub newest-found : p x ≡ true → find p (reverse (take n xs)) ≡ Some x
