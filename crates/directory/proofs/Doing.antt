@@ -145,6 +145,15 @@ module _ (p : Plan) (w : World) (call : Call) where
       ; refused-unchanged = refl
       ; rest = record { coordinators = refl; records = refl; replies = refl } }
 
+    -- a call that is refused whatever the coordinator is
+    pub refuses-always : (n : Refusal) → ((x : Local) → local-call p x call ≡ Err n) → Does p w w (Err n) call
+    refuses-always n e = record
+      { steps = λ s. reached (Err n) (e (local-at v c))
+      ; stays-sound = λ s. s
+      ; bad-call = not-bad (Err n)
+      ; refused-unchanged = refl
+      ; rest = record { coordinators = refl; records = refl; replies = refl } }
+
     -- an accepted call that changes nothing
     pub only-answers : (d : Coordinator) (a : Answer) → (Sound p w → local-call p (here d) call ≡ Ok (record { answer = a; after = here d })) → Does p w w (Ok a) call
     only-answers d a e = record

@@ -12,3 +12,5 @@ pub mod Transacting
 pub mod Begun
 pub mod Rooms
 pub mod Committing
+pub mod Passing
+pub mod Polling

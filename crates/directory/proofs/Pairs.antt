@@ -3,7 +3,7 @@ use mathlib.Core.Path.{_≡_, refl, sym, ap, _∙_}
 use mathlib.Core.List.{List, []}
 use Prim.Native.Nat.{ℕ, _+_, _*_, _<_, _≤_}
 use native.Mathlib.Omega.{arith}
-use lib.ListN.{length, getD, set, drop}
+use lib.ListN.{length, getD, set, take, drop}
 use borrow.Rule.Slice.PartMut.{putMid}
 use Rattle.std.specs.shelf.Lists.{All}
 use Rattle.std.proofs.shelf.Elements.{all-getD, all-set}
@@ -76,6 +76,15 @@ module _ (p : Plan) (w : World) (c m : ℕ) (in′ : Inside p w c) (below : m < 
 
   abbrev pub places : List Reply
   places = block 4 place (w .replies)
+
+  -- as the code lends them
+  pub slots-are : (k : ℕ) → k ≡ p .capacity → take k (drop (place * p .capacity) (w .records)) ≡ slots
+  unfolding block
+  slots-are k e = ap (λ (n : ℕ). take n (drop (place * p .capacity) (w .records))) e
+
+  pub places-are : (k : ℕ) → k ≡ 4 → take k (drop (place * 4) (w .replies)) ≡ places
+  unfolding block
+  places-are k e = ap (λ (n : ℕ). take n (drop (place * 4) (w .replies))) e
 
   pub long-slots : length slots ≡ p .capacity
   long-slots = length-block (w .records) (p .capacity) place log-end

@@ -5,3 +5,4 @@ pub mod Checks
 pub mod Calls
 pub mod Work
 pub mod Commits
+pub mod Polls

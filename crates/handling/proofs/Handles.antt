@@ -28,7 +28,7 @@ use Rattle.handling.specs.Notes.{notes, polled}
 use Rattle.handling.specs.Handling.{Effect, effect, Sound-log, Handles-lock}
 
 module _ {X : Type 0} (P : X → Type 0) where
-  all-reverse : (xs : List X) → All P xs → All P (reverse xs)
+  pub all-reverse : (xs : List X) → All P xs → All P (reverse xs)
   all-reverse [] h = tt
   all-reverse (x ∷ xs) h = subst (All P) (sym (reverse-append (x ∷ []) xs)) (all-append P (reverse xs) (x ∷ []) (all-reverse xs (h .1)) (h .0, tt))
 

@@ -1,10 +1,10 @@
 mod Looking
-mod Newest
-mod Peeks
+pub mod Newest
+pub mod Peeks
 mod Trimming
 pub mod BackingUp
 pub mod Freeing
 pub mod Installing
 pub mod Locking
 mod Truncating
-mod Handles
+pub mod Handles
