@@ -15,7 +15,7 @@ use protocol::record::{Line, Record, Reply};
 use ring::Ring;
 
 // An idle coordinator with empty rings.
-fn fresh(first: u64) -> Coordinator
+pub fn fresh(first: u64) -> Coordinator
     ensures { λ r. ⌜ Fresh first r ⌝ }
 {
     let line = Line { address: 0, version: 0, value: 0 };

@@ -1,5 +1,5 @@
 -- A loop that looks through a list, by its index, for one that passes a test.
-use mathlib.Core.Path.{_≡_, refl, sym, ap, _∙_}
+use mathlib.Core.Path.{_≡_, refl, sym, _∙_}
 use mathlib.Core.Bool.{Bool, true, false, not}
 use mathlib.Core.List.{List, _∷_}
 use Prim.Native.Nat.{ℕ, _+_, _<_, _≤_}
@@ -24,10 +24,11 @@ module _ {X : Type 0} (f : X → Bool) where
   some-rest x xs e = rw e
 
   from-rest : (xs : List X) (i : ℕ) → some? f (drop i xs) ≡ some? f xs → Looked f xs i
-  from-rest xs i inv = record
-    { rest = inv
-    ; none = λ l. sym (at-drop-all (some? f) xs i l) ∙ inv
-    ; here = λ d l e. sym (some-first (getD xs i d) (drop (i + 1) xs) e) ∙ sym (at-drop-more (some? f) xs i d l) ∙ inv }
+  from-rest xs i inv = record {
+    rest = inv;
+    none = λ l. sym (at-drop-all (some? f) xs i l) ∙ inv;
+    here = λ d l e. sym (some-first (getD xs i d) (drop (i + 1) xs) e) ∙ sym (at-drop-more (some? f) xs i d l) ∙ inv;
+  }
 
   pub looked-none : (xs : List X) → Looked f xs 0
   looked-none xs = from-rest xs 0 refl

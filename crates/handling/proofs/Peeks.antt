@@ -1,7 +1,7 @@
 -- What a peek into a ring says of the records of its log.
-use mathlib.Core.Path.{_≡_, refl, sym, ap, _∙_}
+use mathlib.Core.Path.{_≡_, refl, ap, _∙_}
 use mathlib.Core.List.{List, [], _∷_, map}
-use Prim.Native.Nat.{ℕ, zero, suc, _+_, _<_, _≤_}
+use Prim.Native.Nat.{ℕ, zero, suc, _<_}
 use native.Mathlib.Numerals.{add-one}
 use native.Mathlib.Omega.{arith}
 use lib.ListN.{length, drop, length-map}
@@ -38,6 +38,10 @@ peek-next r slots i got e = next-is (contents r slots) i got e
 pub length-notes : (r : Ring) (slots : List Record) → Sound r (length slots) → length (notes r slots) ≡ r .len
 length-notes r slots s = length-map (contents r slots) note ∙ length-contents r slots (s .head) (s .len)
 
--- below the number of entries there is a record
-pub peek-there : (r : Ring) (slots : List Record) (i : ℕ) → Sound r (length slots) → i < r .len → drop i (notes r slots) ≡ [] → ⊥
+-- where there is a record, it is one of the entries
+pub next-below : (r : Ring) (slots : List Record) (i : ℕ) (x : Record) → Sound r (length slots) → Next-is (notes r slots) i (Some x) → i < r .len
+next-below r slots i x s e = omega (arith, length-drop i (notes r slots), ap length e, length-notes r slots s)
+
+-- and below their number there is one
+pub peek-there : (r : Ring) (slots : List Record) (i : ℕ) → Sound r (length slots) → i < r .len → Next-is (notes r slots) i None → ⊥
 peek-there r slots i s l e = omega (arith, length-drop i (notes r slots), ap length e, length-notes r slots s)

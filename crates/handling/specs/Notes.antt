@@ -3,6 +3,7 @@ use mathlib.Core.Path.{_≡_}
 use mathlib.Core.List.{List, [], _∷_, map, reverse}
 use Prim.Native.Nat.{ℕ, _+_}
 use lib.ListN.{take, drop}
+use Rattle.std.specs.Options.{mapped}
 use Rattle.std.specs.declared.option.Option.{Option}
 use Rattle.std.specs.declared.option.Option.the-variants.{Some, None}
 use Rattle.ring.specs.declared.Ring.{Ring}
@@ -18,9 +19,9 @@ notes r slots = map note (contents r slots)
 abbrev pub polled : Ring → List Record → List Note
 polled r slots = reverse (take (r .cursor) (notes r slots))
 
+-- a record that was found, if any
 abbrev pub noted : Option Record → Option Note
-noted None = None
-noted (Some x) = Some (note x)
+noted r = mapped note r
 
 -- from place i on there is nothing, or this record and those behind it
 abbrev pub Next-is : List Note → ℕ → Option Record → Type 0

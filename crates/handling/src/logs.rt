@@ -6,7 +6,8 @@ ghost use Rattle.protocol.specs.Lists.{find};
 ghost use Rattle.protocol.specs.Record.{note};
 ghost use Rattle.protocol.specs.Poll.{locks?};
 ghost use Rattle.handling.specs.Notes.{notes, polled, noted, Next-is};
-use protocol::record::{Kind, Record};
+use protocol::record::Kind;
+use protocol::record::Record;
 use ring::Ring;
 
 // The record i places after the front.

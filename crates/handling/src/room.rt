@@ -1,7 +1,7 @@
 // Where lines belong, and whether a commit finds room in its coordinator's logs.
 ghost use mathlib.Core.Path.{_≡_};
 ghost use mathlib.Core.Bool.{not, _||_};
-ghost use Prim.Native.Nat.{ℕ, _+_, _≤_};
+ghost use Prim.Native.Nat.{_+_, _≤_};
 ghost use lib.Dec.{leb, eqb};
 ghost use lib.ListN.{length};
 ghost use Rattle.ring.specs.Contents.{Sound};
@@ -10,10 +10,13 @@ ghost use Rattle.protocol.specs.Plan.{home-of};
 ghost use Rattle.protocol.specs.Record.{is?, untrimmed?};
 ghost use Rattle.protocol.specs.Room.{at-primary?, backs?, at-backup?, with-trim, one-if};
 ghost use Rattle.handling.specs.Notes.{notes};
-ghost use Rattle.handling.specs.Sending.{wanted};
+ghost use Rattle.handling.specs.Sending.{picks?, has-picked?, wanted};
 use crate::logs::record_at;
-use protocol::plan::{Home, Plan};
-use protocol::record::{Kind, Line, Record};
+use protocol::plan::Home;
+use protocol::plan::Plan;
+use protocol::record::Kind;
+use protocol::record::Line;
+use protocol::record::Record;
 use ring::Ring;
 
 // The home of an address; past the last region it is machine 0 three times.
@@ -22,7 +25,11 @@ pub fn home(plan: &Plan, address: u16) -> Home
 {
     let region = (address / 64) as usize;
     if region >= 8 {
-        return Home { primary: 0, first: 0, second: 0 };
+        return Home {
+            primary: 0,
+            first: 0,
+            second: 0,
+        };
     }
     plan.homes[region]
 }
@@ -40,28 +47,40 @@ pub fn is_backup(plan: &Plan, address: u16, m: u8) -> bool
     home.first == m || home.second == m
 }
 
-// A line has its primary on machine m.
-pub fn at_primary(plan: &Plan, lines: &[Line], m: u8) -> bool
-    ensures { λ r. ⌜ r ≡ at-primary? (now (plan .entry)) (now (lines .entry)) m ⌝ }
+// A record of that kind for machine m has the line of that address. LOCK and COMMIT-BACKUP alone have lines.
+pub(crate) fn picks(plan: &Plan, kind: Kind, m: u8, address: u16) -> bool
+    ensures { λ r. ⌜ r ≡ picks? (now (plan .entry)) kind m address ⌝ }
+{
+    match kind {
+        Kind::Lock => is_primary(plan, address, m),
+        Kind::CommitBackup => is_backup(plan, address, m),
+        _ => false,
+    }
+}
+
+fn has_picked(plan: &Plan, kind: Kind, m: u8, lines: &[Line]) -> bool
+    ensures { λ r. ⌜ r ≡ has-picked? (now (plan .entry)) kind m (now (lines .entry)) ⌝ }
 {
     for line in lines {
-        if is_primary(plan, line.address, m) {
+        if picks(plan, kind, m, line.address) {
             return true;
         }
     }
     false
 }
 
-// A line has a backup on machine m.
+// A line has its primary on machine m: the LOCK for m has lines.
+pub fn at_primary(plan: &Plan, lines: &[Line], m: u8) -> bool
+    ensures { λ r. ⌜ r ≡ at-primary? (now (plan .entry)) (now (lines .entry)) m ⌝ }
+{
+    has_picked(plan, Kind::Lock, m, lines)
+}
+
+// A line has a backup on machine m: the COMMIT-BACKUP for m has lines.
 pub fn at_backup(plan: &Plan, lines: &[Line], m: u8) -> bool
     ensures { λ r. ⌜ r ≡ at-backup? (now (plan .entry)) (now (lines .entry)) m ⌝ }
 {
-    for line in lines {
-        if is_backup(plan, line.address, m) {
-            return true;
-        }
-    }
-    false
+    has_picked(plan, Kind::CommitBackup, m, lines)
 }
 
 // All the records that a commit of these lines writes into the log of machine m.

@@ -1,3 +1,4 @@
+-- The polled records are gone through from the newest.
 use mathlib.Core.Path.{sym, _∙_}
 use native.Mathlib.Omega.{arith}
 use Rattle.protocol.specs.Poll.{locks?}

@@ -1,3 +1,4 @@
+-- What a peek shows is the record at that place.
 use Rattle.handling.proofs.Peeks.{peek-next}
 use Rattle.handling.proofs.logs.record_at.Needs as need
 

@@ -1,3 +1,4 @@
+-- The ring has as many entries as the log has records.
 use Rattle.handling.proofs.Peeks.{length-notes}
 use Rattle.handling.proofs.room.has_place.Needs as need
 

@@ -1,3 +1,4 @@
+-- Past the eight regions there is no home.
 use mathlib.Core.Path.{sym}
 use native.Mathlib.Omega.{arith}
 use Rattle.std.proofs.shelf.Lists.{getD-past}

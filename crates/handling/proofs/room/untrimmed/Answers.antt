@@ -1,3 +1,4 @@
+-- The last record decides, and with no record there is nothing to trim.
 use mathlib.Core.Path.{sym, ap, _∙_}
 use mathlib.Core.Bool.{not}
 use native.Mathlib.Omega.{arith}
@@ -17,4 +18,4 @@ pub returns : need.returns
 returns c = λ s.
     ap not (c .is-truncate .ensures)
     ∙ sym (untrimmed-last (notes (c .args .log .now) (c .args .slots .now)) (c .args .log .now .len) (note (c .in-Some .last)) _
-        (length-notes (c .args .log .now) (c .args .slots .now) s) (omega arith) (c .in-Some .ensures tt s))
+    (length-notes (c .args .log .now) (c .args .slots .now) s) (omega arith) (c .in-Some .ensures tt s))

@@ -1,0 +1,9 @@
+pub mod Bytes
+pub mod Faults
+pub mod Frames
+pub mod Entries
+pub mod Sequence
+pub mod Reading
+pub mod Writing
+pub mod Encoding
+pub mod Laws
