@@ -14,3 +14,11 @@ pub mod Rooms
 pub mod Committing
 pub mod Passing
 pub mod Polling
+pub mod Blocks
+pub mod GoingOn
+pub mod Logging
+pub mod Sending
+pub mod Trimming
+pub mod Progressing
+pub mod Checking
+pub mod Taking

@@ -6,3 +6,6 @@ pub mod Calls
 pub mod Work
 pub mod Commits
 pub mod Polls
+pub mod Slots
+pub mod Due
+pub mod Progress

@@ -22,7 +22,7 @@ use protocol::plan::Plan;
 use protocol::record::{Kind, Record, Reply};
 use ring::Ring;
 
-fn kind_number(kind: Kind) -> u64
+pub fn kind_number(kind: Kind) -> u64
     ensures { λ r. ⌜ r ≡ number-of kind ⌝ }
 {
     match kind {

@@ -1,26 +1,59 @@
 // The calls of a directory that owns what they are made on.
 ghost use mathlib.Core.Path.{_≡_};
+ghost use Rattle.protocol.specs.declared.call.Call.the-variants.{Open, Read, Write, Abandon, Commit, Poll};
 ghost use Rattle.directory.specs.Calls.{Does};
 ghost use Rattle.service.specs.Owned.{owned};
 use crate::owner::Directory;
 use directory::{commit, poll, transact};
 use memory::interface::Memory;
-use protocol::call::{Answer, Call, Refusal};
+use protocol::call::{Answer, Refusal};
 
 impl<P: Memory, F: Memory, S: Memory> Directory<P, F, S> {
-    // Makes the call.
-    pub fn call(&mut self, call: Call) -> Result<Answer, Refusal>
-        ensures does { λ r. ⌜ Does (now (self .entry) .plan) (owned (P·Memory .words) (F·Memory .words) (S·Memory .words) (now (self .entry))) (owned (P·Memory .words) (F·Memory .words) (S·Memory .words) (now (self .exit))) r call ⌝ }
+    // Starts a transaction.
+    pub fn open(&mut self, c: u8) -> Result<Answer, Refusal>
+        ensures does { λ r. ⌜ Does (now (self .entry) .plan) (owned (P·Memory .words) (F·Memory .words) (S·Memory .words) (now (self .entry))) (owned (P·Memory .words) (F·Memory .words) (S·Memory .words) (now (self .exit))) r (Open c) ⌝ }
         ensures plan { λ _. ⌜ now (self .exit) .plan ≡ now (self .entry) .plan ⌝ }
     {
-        match call {
-            Call::Open(c) => transact::open(&self.plan, &mut self.coordinators, &self.records, &self.replies, &self.primaries, &self.firsts, &self.seconds, c),
-            Call::Read(c, a) => transact::read(&self.plan, &mut self.coordinators, &self.records, &self.replies, &self.primaries, &self.firsts, &self.seconds, c, a),
-            Call::Write(c, a, v) => transact::write(&self.plan, &mut self.coordinators, &self.records, &self.replies, &self.primaries, &self.firsts, &self.seconds, c, a, v),
-            Call::Abandon(c) => transact::abandon(&self.plan, &mut self.coordinators, &self.records, &self.replies, &self.primaries, &self.firsts, &self.seconds, c),
-            Call::Commit(c) => commit::commit(&self.plan, &mut self.coordinators, &self.records, &self.replies, &self.primaries, &self.firsts, &self.seconds, c),
-            Call::Poll(c, m) => poll::poll(&self.plan, &mut self.coordinators, &self.records, &mut self.replies, &mut self.primaries, &mut self.firsts, &mut self.seconds, c, m),
-            _ => Err(Refusal::Nothing),
-        }
+        transact::open(&self.plan, &mut self.coordinators, &self.records, &self.replies, &self.primaries, &self.firsts, &self.seconds, c)
+    }
+
+    // Answers version and value of a word.
+    pub fn read(&mut self, c: u8, address: u16) -> Result<Answer, Refusal>
+        ensures does { λ r. ⌜ Does (now (self .entry) .plan) (owned (P·Memory .words) (F·Memory .words) (S·Memory .words) (now (self .entry))) (owned (P·Memory .words) (F·Memory .words) (S·Memory .words) (now (self .exit))) r (Read c address) ⌝ }
+        ensures plan { λ _. ⌜ now (self .exit) .plan ≡ now (self .entry) .plan ⌝ }
+    {
+        transact::read(&self.plan, &mut self.coordinators, &self.records, &self.replies, &self.primaries, &self.firsts, &self.seconds, c, address)
+    }
+
+    // Buffers a value for a word that was read.
+    pub fn write(&mut self, c: u8, address: u16, value: u64) -> Result<Answer, Refusal>
+        ensures does { λ r. ⌜ Does (now (self .entry) .plan) (owned (P·Memory .words) (F·Memory .words) (S·Memory .words) (now (self .entry))) (owned (P·Memory .words) (F·Memory .words) (S·Memory .words) (now (self .exit))) r (Write c address value) ⌝ }
+        ensures plan { λ _. ⌜ now (self .exit) .plan ≡ now (self .entry) .plan ⌝ }
+    {
+        transact::write(&self.plan, &mut self.coordinators, &self.records, &self.replies, &self.primaries, &self.firsts, &self.seconds, c, address, value)
+    }
+
+    // Gives the transaction up.
+    pub fn abandon(&mut self, c: u8) -> Result<Answer, Refusal>
+        ensures does { λ r. ⌜ Does (now (self .entry) .plan) (owned (P·Memory .words) (F·Memory .words) (S·Memory .words) (now (self .entry))) (owned (P·Memory .words) (F·Memory .words) (S·Memory .words) (now (self .exit))) r (Abandon c) ⌝ }
+        ensures plan { λ _. ⌜ now (self .exit) .plan ≡ now (self .entry) .plan ⌝ }
+    {
+        transact::abandon(&self.plan, &mut self.coordinators, &self.records, &self.replies, &self.primaries, &self.firsts, &self.seconds, c)
+    }
+
+    // Begins the commit, and answers its number.
+    pub fn commit(&mut self, c: u8) -> Result<Answer, Refusal>
+        ensures does { λ r. ⌜ Does (now (self .entry) .plan) (owned (P·Memory .words) (F·Memory .words) (S·Memory .words) (now (self .entry))) (owned (P·Memory .words) (F·Memory .words) (S·Memory .words) (now (self .exit))) r (Commit c) ⌝ }
+        ensures plan { λ _. ⌜ now (self .exit) .plan ≡ now (self .entry) .plan ⌝ }
+    {
+        commit::commit(&self.plan, &mut self.coordinators, &self.records, &self.replies, &self.primaries, &self.firsts, &self.seconds, c)
+    }
+
+    // Handles the next record of a log, and answers its kind and count.
+    pub fn poll(&mut self, c: u8, m: u8) -> Result<Answer, Refusal>
+        ensures does { λ r. ⌜ Does (now (self .entry) .plan) (owned (P·Memory .words) (F·Memory .words) (S·Memory .words) (now (self .entry))) (owned (P·Memory .words) (F·Memory .words) (S·Memory .words) (now (self .exit))) r (Poll c m) ⌝ }
+        ensures plan { λ _. ⌜ now (self .exit) .plan ≡ now (self .entry) .plan ⌝ }
+    {
+        poll::poll(&self.plan, &mut self.coordinators, &self.records, &mut self.replies, &mut self.primaries, &mut self.firsts, &mut self.seconds, c, m)
     }
 }
