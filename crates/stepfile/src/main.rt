@@ -1,14 +1,14 @@
 // Plays the step file on standard input: makes each call in its turn, and prints what it answered.
-mod input;
 mod play;
 mod row;
 
 use play::play;
-use std::error::AnyError;
 use std::io;
+use std::io::Read;
 
 fn main(rt: LibcRuntime) -> io::Result<()> {
-    let bytes = input::read(&rt)?;
+    let mut bytes = Vec::new(rt.alloc());
+    rt.stdin().read_to_end(&mut bytes)?;
     match play(&rt, &bytes)? {
         None => Ok(()),
         Some(fault) => {

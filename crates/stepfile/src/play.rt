@@ -1,5 +1,5 @@
 // Playing a step file: each entry is handed to the directory, and its answer is printed.
-use crate::row::{Row, name, row};
+use crate::row::{Row, name, row_of};
 use memory::cells::{Cells, CellsMemory};
 use memory::make::MakeError;
 use protocol::call::{Answer, Outcome, Refusal};
@@ -45,14 +45,18 @@ fn print(rt: &LibcRuntime, entry: usize, name: &str, row: Row) -> io::Result<()>
 // The entries after the set-up; a fault ends the reading.
 fn calls(rt: &LibcRuntime, steps: &mut Steps<'_>, house: &mut House, most: usize) -> io::Result<Option<RunFault>> {
     for entry in 1..=most {
-        match next(steps) {
-            Ok(Some(Placed { place: _, step: Step::Call(call) })) => {
-                let answer = house.call(call);
-                print(rt, entry, name(call), row(answer))?;
-            }
-            Ok(_) => return Ok(None),
+        let found = match next(steps) {
+            Ok(found) => found,
             Err(fault) => return Ok(Some(fault)),
-        }
+        };
+        let Some(placed) = found else {
+            return Ok(None);
+        };
+        let Step::Call(call) = placed.step else {
+            return Ok(None);
+        };
+        let answer = house.call(call);
+        print(rt, entry, name(call), row_of(answer))?;
     }
     Ok(None)
 }
@@ -63,10 +67,16 @@ pub fn play(rt: &LibcRuntime, bytes: &[u8]) -> io::Result<Option<RunFault>> {
         Ok(steps) => steps,
         Err(fault) => return Ok(Some(fault)),
     };
-    let (place, plan) = match next(&mut steps) {
-        Ok(Some(Placed { place, step: Step::SetUp(plan) })) => (place, plan),
-        Ok(_) => return Ok(None),
+    let found = match next(&mut steps) {
+        Ok(found) => found,
         Err(fault) => return Ok(Some(fault)),
+    };
+    let Some(placed) = found else {
+        return Ok(None);
+    };
+    let place = placed.place;
+    let Step::SetUp(plan) = placed.step else {
+        return Ok(None);
     };
     let mut house = match house(rt.alloc(), plan) {
         Ok(house) => house,
@@ -74,6 +84,6 @@ pub fn play(rt: &LibcRuntime, bytes: &[u8]) -> io::Result<Option<RunFault>> {
         Err(Unmade::NoMemory) => return Err(io::ErrorKind::OutOfMemory.into()),
     };
     let size = 64 * plan.regions as u64;
-    print(rt, 0, "setup", row(Ok(Answer { first: size, second: 0, outcome: Outcome::Going })))?;
+    print(rt, 0, "setup", row_of(Ok(Answer { first: size, second: 0, outcome: Outcome::Going })))?;
     calls(rt, &mut steps, &mut house, bytes.len())
 }

@@ -41,7 +41,7 @@ fn refusal_number(refusal: Refusal) -> u8
     }
 }
 
-pub fn row(answer: Result<Answer, Refusal>) -> Row
+pub fn row_of(answer: Result<Answer, Refusal>) -> Row
     ensures { λ r. ⌜ r .refusal ∷ r .first ∷ r .second ∷ r .outcome ∷ [] ≡ numbers answer ⌝ }
 {
     match answer {

@@ -3,10 +3,10 @@ use mathlib.Core.Bool.{Bool, true, false, cond, not}
 use mathlib.Core.List.{List, [], _∷_, _++_, map}
 use mathlib.Core.Logic.{_⊎_, inl, inr}
 use mathlib.Core.Path.{_≡_, refl, sym, ap, subst, _∙_}
-use Prim.Native.Nat.{ℕ, zero, suc, _+_, _*_, _^_, _≤_, _<_}
+use Prim.Native.Nat.{ℕ, zero, suc, _+_, _*_, _≤_, _<_}
 use native.Mathlib.Omega.{arith}
 use lib.Dec.{eqb, ltb}
-use lib.ListN.{length, getD, take, drop, length-take, length-append}
+use lib.ListN.{length, getD, take, drop}
 use Rattle.std.specs.Iters.{counting}
 use Rattle.std.specs.Options.{mapped}
 use Rattle.std.specs.declared.option.Option.{Option}
@@ -26,7 +26,7 @@ use Rattle.protocol.specs.declared.plan.Plan.{Plan}
 use Rattle.steps.specs.declared.decode.Step.{Step}
 use Rattle.steps.specs.declared.decode.Step.the-variants.{SetUp, Call as ACall}
 use Rattle.steps.specs.declared.fault.EntryFault.{EntryFault}
-use Rattle.steps.specs.declared.fault.EntryFault.the-variants.{UnknownKind, WrongLength, OutOfOrder}
+use Rattle.steps.specs.declared.fault.EntryFault.the-variants.{WrongLength, OutOfOrder}
 use Rattle.steps.specs.Bytes.{two-at, eight-at}
 use Rattle.steps.specs.Encoding.{home-bytes, encoded-plan, encoded-call, encoded, Keeps-homes, Encodable, Encodes-back, Decodes-back}
 use Rattle.steps.specs.Entries.{blank, regions, home, homes, plan, sized, steps, in-order?, checked, decoded}
@@ -101,7 +101,7 @@ module _ (e : List ℕ) (byte : (i : ℕ) → getD e i 0 < 256) where
   region-bytes zero r h l = sym (drop-all (21 + 3 * r) e (omega arith))
   region-bytes (suc n) r h l =
       let here : home e r ≡ record { primary = getD e (21 + 3 * r) 0; first = getD e (22 + 3 * r) 0; second = getD e (23 + 3 * r) 0 } =
-          cond-true (ltb r (regions e)) _ _ (lt-ltb r (regions e) (omega arith)) in
+      cond-true (ltb r (regions e)) _ _ (lt-ltb r (regions e) (omega arith)) in
       let i = 21 + 3 * r in
       let second : i + 1 ≡ 22 + 3 * r = omega arith in
       let third : i + 1 + 1 ≡ 23 + 3 * r = omega arith in
@@ -120,7 +120,7 @@ module _ (e : List ℕ) (byte : (i : ℕ) → getD e i 0 < 256) where
   plan-encoded l small kind =
       let behind = drop 21 e in
       let regions-there : joined home-bytes (take (regions e) (homes e)) ≡ behind =
-          ap (joined home-bytes) (take-map-counting (home e) 0 8 (regions e) small) ∙ region-bytes (regions e) 0 (omega arith) l in
+      ap (joined home-bytes) (take-map-counting (home e) 0 8 (regions e) small) ∙ region-bytes (regions e) 0 (omega arith) l in
       ap (λ (xs : List ℕ). 0 ∷ getD e 1 0 ∷ getD e 2 0 ∷ getD e 3 0 ∷ getD e 4 0 ∷ big-endian 8 (eight-at e 5) ++ (big-endian 8 (eight-at e 13) ++ xs)) regions-there
       ∙ ap (λ (xs : List ℕ). 0 ∷ getD e 1 0 ∷ getD e 2 0 ∷ getD e 3 0 ∷ getD e 4 0 ∷ xs ++ (big-endian 8 (eight-at e 13) ++ behind)) (eight 5)
       ∙ ap (λ (xs : List ℕ). 0 ∷ getD e 1 0 ∷ getD e 2 0 ∷ getD e 3 0 ∷ getD e 4 0 ∷ eight-bytes 5 ++ (xs ++ behind)) (eight 13)
@@ -137,17 +137,34 @@ module _ (e : List ℕ) (byte : (i : ℕ) → getD e i 0 < 256) where
   rows : Rows e 0 (steps e)
   rows =
       let c = getD e 1 0 in
-      let m = getD e 2 0 in
-      (plan-row,
-          (call-row e 2 1 (Open c) (c ∷ []) refl refl,
-              (call-row e 4 2 (Read c (two-at e 2)) (c ∷ getD e 2 0 ∷ getD e 3 0 ∷ []) (ap (λ (xs : List ℕ). 2 ∷ c ∷ xs) (two 2)) refl,
-                  (call-row e 12 3 (Write c (two-at e 2) (eight-at e 4)) (c ∷ getD e 2 0 ∷ getD e 3 0 ∷ eight-bytes 4) (ap (λ (xs : List ℕ). 3 ∷ c ∷ xs ++ big-endian 8 (eight-at e 4)) (two 2) ∙ ap (λ (xs : List ℕ). 3 ∷ c ∷ getD e 2 0 ∷ getD e 3 0 ∷ xs) (eight 4)) refl,
-                      (call-row e 2 4 (Abandon c) (c ∷ []) refl refl,
-                          (call-row e 2 5 (Commit c) (c ∷ []) refl refl,
-                              (call-row e 2 6 (Send c) (c ∷ []) refl refl,
-                                  (call-row e 3 7 (Poll c m) (c ∷ m ∷ []) refl refl,
-                                      (call-row e 3 8 (Take c m) (c ∷ m ∷ []) refl refl,
-                                          (call-row e 2 9 (Check c) (c ∷ []) refl refl, (call-row e 3 10 (Trim c m) (c ∷ m ∷ []) refl refl, tt)))))))))))
+      let m = getD e 2 0 in (
+        plan-row,
+        (
+          call-row e 2 1 (Open c) (c ∷ []) refl refl,
+          (
+            call-row e 4 2 (Read c (two-at e 2)) (c ∷ getD e 2 0 ∷ getD e 3 0 ∷ []) (ap (λ (xs : List ℕ). 2 ∷ c ∷ xs) (two 2)) refl,
+            (
+              call-row e 12 3 (Write c (two-at e 2) (eight-at e 4)) (c ∷ getD e 2 0 ∷ getD e 3 0 ∷ eight-bytes 4) (ap (λ (xs : List ℕ). 3 ∷ c ∷ xs ++ big-endian 8 (eight-at e 4)) (two 2) ∙ ap (λ (xs : List ℕ). 3 ∷ c ∷ getD e 2 0 ∷ getD e 3 0 ∷ xs) (eight 4)) refl,
+              (
+                call-row e 2 4 (Abandon c) (c ∷ []) refl refl,
+                (
+                  call-row e 2 5 (Commit c) (c ∷ []) refl refl,
+                  (
+                    call-row e 2 6 (Send c) (c ∷ []) refl refl,
+                    (
+                      call-row e 3 7 (Poll c m) (c ∷ m ∷ []) refl refl,
+                      (
+                        call-row e 3 8 (Take c m) (c ∷ m ∷ []) refl refl,
+                        (call-row e 2 9 (Check c) (c ∷ []) refl refl, (call-row e 3 10 (Trim c m) (c ∷ m ∷ []) refl refl, tt)),
+                      ),
+                    ),
+                  ),
+                ),
+              ),
+            ),
+          ),
+        ),
+      )
 
 -- a decoded step was found among the kinds
 checked-ok : (place : ℕ) (o : Option (Option Step)) (s : Step) → checked place o ≡ Ok s → o ≡ Some (Some s)
@@ -193,7 +210,7 @@ home-there (h ∷ hs) (suc r) l =
     record {
       primary = ap (λ i. getD (home-bytes h ++ rest) i 0) at-primary ∙ getD-append-add (home-bytes h) rest (3 * r) 0 ∙ there .primary;
       first = ap (λ i. getD (home-bytes h ++ rest) i 0) at-first ∙ getD-append-add (home-bytes h) rest (3 * r + 1) 0 ∙ there .first;
-      second = ap (λ i. getD (home-bytes h ++ rest) i 0) at-second ∙ getD-append-add (home-bytes h) rest (3 * r + 2) 0 ∙ there .second
+      second = ap (λ i. getD (home-bytes h ++ rest) i 0) at-second ∙ getD-append-add (home-bytes h) rest (3 * r + 2) 0 ∙ there .second;
     }
 
 same-home : (a b c : ℕ) (h : Home) → a ≡ h .primary → b ≡ h .first → c ≡ h .second → _≡_ {A = Home} (record { primary = a; first = b; second = c }) h
@@ -226,9 +243,9 @@ module _ (p : Plan) (fits : Encodable (SetUp p)) where
           let at-second : 23 + 3 * r ≡ 21 + (3 * r + 2) = omega arith in
           cond-true (ltb r (p .regions)) _ _ (lt-ltb r (p .regions) under)
           ∙ same-home _ _ _ (getD (take (p .regions) (p .homes)) r blank)
-              (getD-append-add head tail (3 * r) 0 ∙ there .primary)
-              (ap (λ i. getD (head ++ tail) i 0) at-first ∙ getD-append-add head tail (3 * r + 1) 0 ∙ there .first)
-              (ap (λ i. getD (head ++ tail) i 0) at-second ∙ getD-append-add head tail (3 * r + 2) 0 ∙ there .second)
+          (getD-append-add head tail (3 * r) 0 ∙ there .primary)
+          (ap (λ i. getD (head ++ tail) i 0) at-first ∙ getD-append-add head tail (3 * r + 1) 0 ∙ there .first)
+          (ap (λ i. getD (head ++ tail) i 0) at-second ∙ getD-append-add head tail (3 * r + 2) 0 ∙ there .second)
           ∙ kept
       by (inr past) = cond-false (ltb r (p .regions)) _ _ (le-ltb r (p .regions) past) ∙ sym (fits .3 r past l)
 

@@ -5,7 +5,7 @@ use mathlib.Core.Path.{_≡_, refl, sym, ap, subst, _∙_}
 use Prim.Native.Nat.{ℕ, zero, suc, _+_, _≤_, _<_}
 use native.Mathlib.Omega.{arith}
 use lib.ListN.{length, getD, take, drop, length-take, length-drop}
-use lib.Seq.{take-add, drop-cons}
+use lib.Seq.{take-add}
 use lib.Dec.{leb, ltb, eqb}
 use Rattle.std.specs.declared.option.Option.the-variants.{Some, None}
 use Rattle.std.specs.declared.result.Result.{Result}
@@ -37,7 +37,7 @@ one-more xs i u h =
     let byte : (k : ℕ) → k < length xs → getD xs k 0 < 256 = λ k l. all-getD (λ d. d < 256) xs k 0 l u in
     let size : length content ≡ n = simp (length-take, length-drop) (omega arith) in
     let bytes : take 2 (drop i xs) ≡ big-endian 2 n =
-        pair-at xs i (omega arith) ∙ sym (big-endian-number 2 (getD xs i 0 ∷ getD xs (i + 1) 0 ∷ []) refl (byte i (omega arith), (byte (i + 1) (omega arith), tt))) in
+    pair-at xs i (omega arith) ∙ sym (big-endian-number 2 (getD xs i 0 ∷ getD xs (i + 1) 0 ∷ []) refl (byte i (omega arith), (byte (i + 1) (omega arith), tt))) in
     take-add (i + 2) n xs
     ∙ ap (λ ys. ys ++ content) (take-add i 2 xs)
     ∙ append-assoc (take i xs) (take 2 (drop i xs)) content
@@ -82,8 +82,8 @@ so-far-more n p true u t rest =
     let cut : take (end-of p) (p .file) ≡ take (p .place) (p .file) ++ with-length (entry p .content) = one-more (p .file) (p .place) u (leb-true (end-of p) (length (p .file)) t) in
     one-call n p q (entry p .content ∷ []) (listed-whole p t) (passed-whole p t)
     (sym (append-assoc (take (p .place) (p .file)) (with-length (entry p .content)) (joined with-length (handed n q)))
-        ∙ ap (λ xs. xs ++ joined with-length (handed n q)) (sym cut)
-        ∙ rest q u)
+    ∙ ap (λ xs. xs ++ joined with-length (handed n q)) (sym cut)
+    ∙ rest q u)
 so-far-more n p false u t rest = one-call n p p [] (listed-other p t) (passed-other p t) (rest p u)
 
 so-far : (n : ℕ) (p : Position) → Under 256 (p .file) → So-far n p

@@ -1,22 +1,21 @@
 -- Entries that were written as a file are read back.
-use mathlib.Core.Bool.{Bool, true, false, cond, _&&_}
+use mathlib.Core.Bool.{true}
 use mathlib.Core.List.{List, [], _∷_, _++_}
 use mathlib.Core.Path.{_≡_, refl, sym, ap, subst, _∙_}
-use Prim.Native.Nat.{ℕ, zero, suc, _+_, _*_, _/_, _%_, _≤_, _<_}
+use Prim.Native.Nat.{ℕ, _+_, _*_, _/_, _%_, _<_}
 use native.Mathlib.Omega.{arith}
-use lib.Dec.{leb, ltb, eqb}
+use lib.Dec.{leb}
 use lib.ListN.{length, getD, take, drop, length-append}
 use lib.Seq.{drop-append-add}
-use Rattle.std.specs.declared.option.Option.the-variants.{Some, None}
-use Rattle.std.specs.declared.result.Result.the-variants.{Ok, Err}
+use Rattle.std.specs.declared.option.Option.the-variants.{None}
+use Rattle.std.specs.declared.result.Result.the-variants.{Ok}
 use Rattle.std.specs.shelf.Lists.{All, joined}
 use Rattle.std.proofs.shelf.Lists.{append-nil, append-assoc, getD-at, getD-append-add, take-at}
-use Rattle.std.proofs.shelf.Tests.{le-leb, lt-leb, lt-ltb, le-ltb, and-from, cond-true, cond-false}
-use Rattle.steps.specs.declared.fault.FrameFault.the-variants.{TooLong, BadVersion, CutShort}
+use Rattle.std.proofs.shelf.Tests.{le-leb, lt-leb, cond-true, cond-false}
 use Rattle.steps.specs.Bytes.{two-at}
 use Rattle.steps.specs.Frames.{Position, at, opened, entry-at, passed, whole?, end-of, entry}
-use Rattle.steps.specs.Writing.{big-endian, with-length, written}
-use Rattle.steps.specs.Laws.{listed, handed, reached, Hands-out, Reads-back}
+use Rattle.steps.specs.Writing.{with-length, written}
+use Rattle.steps.specs.Laws.{listed, handed, reached, Reads-back}
 use Rattle.steps.proofs.Cutting.{passed-whole, listed-whole, opened-at}
 use Rattle.steps.proofs.Numbers.{number-big-endian}
 
@@ -56,11 +55,12 @@ Back file i es = (handed (length es) (at file i) ≡ es) × (reached (length es)
 one-call : (file : List ℕ) (i j : ℕ) (e : List ℕ) (es : List (List ℕ))
     → listed (entry-at (at file i)) ≡ e ∷ [] → passed (at file i) ≡ at file j → Back file j es → Back file i (e ∷ es)
 unfolding Back handed reached
-one-call file i j e es l q b =
-    (ap (λ (xs : List (List ℕ)). xs ++ handed (length es) (passed (at file i))) l
-        ∙ ap (λ (r : Position). e ∷ handed (length es) r) q
-        ∙ ap (λ (xs : List (List ℕ)). e ∷ xs) (b .0),
-        ap (reached (length es)) q ∙ b .1)
+one-call file i j e es l q b = (
+  ap (λ (xs : List (List ℕ)). xs ++ handed (length es) (passed (at file i))) l
+      ∙ ap (λ (r : Position). e ∷ handed (length es) r) q
+      ∙ ap (λ (xs : List (List ℕ)). e ∷ xs) (b .0),
+  ap (reached (length es)) q ∙ b .1,
+)
 
 back : (pre : List ℕ) (es : List (List ℕ)) → All (λ e. length e < 65536) es → Back (pre ++ joined with-length es) (length pre) es
 unfolding Back handed reached
@@ -87,5 +87,5 @@ reads-back bytes start o es short e =
     let there : start ≡ at (written es) 1 = opened-at bytes start o ∙ ap (λ xs. at xs 1) e in
     record {
       same = ap (handed (length es)) there ∙ b .0;
-      ends = ap (λ p. entry-at (reached (length es) p)) there ∙ ap entry-at (b .1) ∙ at-end (written es)
+      ends = ap (λ p. entry-at (reached (length es) p)) there ∙ ap entry-at (b .1) ∙ at-end (written es);
     }

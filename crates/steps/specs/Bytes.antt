@@ -13,11 +13,11 @@ abbrev pub eight-at : List ℕ → ℕ → ℕ
 eight-at bytes i =
     number 256
     (getD bytes i 0
-        ∷ getD bytes (i + 1) 0
-        ∷ getD bytes (i + 2) 0
-        ∷ getD bytes (i + 3) 0
-        ∷ getD bytes (i + 4) 0
-        ∷ getD bytes (i + 5) 0
-        ∷ getD bytes (i + 6) 0
-        ∷ getD bytes (i + 7) 0
-        ∷ [])
+    ∷ getD bytes (i + 1) 0
+    ∷ getD bytes (i + 2) 0
+    ∷ getD bytes (i + 3) 0
+    ∷ getD bytes (i + 4) 0
+    ∷ getD bytes (i + 5) 0
+    ∷ getD bytes (i + 6) 0
+    ∷ getD bytes (i + 7) 0
+    ∷ [])

@@ -15,10 +15,11 @@ use Rattle.steps.specs.declared.decode.Step.the-variants.{SetUp, Call as ACall
 use Rattle.steps.specs.Entries.{blank, in-order?, decoded}
 use Rattle.steps.specs.Writing.{big-endian}
 
+-- a home in three bytes
 abbrev pub home-bytes : Home → List ℕ
 home-bytes h = h .primary ∷ h .first ∷ h .second ∷ []
 
--- the homes of the plan's regions, three bytes each
+-- a set-up of this plan: its fields, and the homes of its regions
 abbrev pub encoded-plan : Plan → List ℕ
 encoded-plan p =
     0
@@ -28,6 +29,7 @@ encoded-plan p =
     ∷ p .capacity
     ∷ big-endian 8 (p .start) ++ (big-endian 8 (p .first) ++ joined home-bytes (take (p .regions) (p .homes)))
 
+-- each call: its kind and its fields
 abbrev pub encoded-call : Call → List ℕ
 encoded-call (Open c) = 1 ∷ c ∷ []
 encoded-call (Read c a) = 2 ∷ c ∷ big-endian 2 a
@@ -40,6 +42,7 @@ encoded-call (Take c m) = 8 ∷ c ∷ m ∷ []
 encoded-call (Check c) = 9 ∷ c ∷ []
 encoded-call (Trim c m) = 10 ∷ c ∷ m ∷ []
 
+-- the bytes of a step's entry
 abbrev pub encoded : Step → List ℕ
 encoded (SetUp p) = encoded-plan p
 encoded (ACall c) = encoded-call c

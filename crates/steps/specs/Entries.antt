@@ -22,27 +22,31 @@ use Rattle.steps.specs.declared.decode.Step.{Step}
 use Rattle.steps.specs.declared.decode.Step.the-variants.{SetUp, Call as ACall}
 use Rattle.steps.specs.Bytes.{two-at, eight-at}
 
--- the fields of a call: a coordinator, then a machine or an address, then a value
+-- the coordinator of a call: the byte behind the kind
 abbrev pub coordinator : List ℕ → ℕ
 coordinator e = getD e 1 0
 
+-- the machine of a poll, take or trim: the byte behind the coordinator
 abbrev pub machine : List ℕ → ℕ
 machine e = getD e 2 0
 
+-- the address of a read or write: the two bytes behind the coordinator
 abbrev pub address : List ℕ → ℕ
 address e = two-at e 2
 
+-- the value of a write: the eight bytes behind the address
 abbrev pub value : List ℕ → ℕ
 value e = eight-at e 4
 
--- the fields of a set-up: four bytes, two numbers of eight bytes, and three bytes for each region
+-- how many regions a set-up has: the byte behind its machines and coordinators
 abbrev pub regions : List ℕ → ℕ
 regions e = getD e 3 0
 
+-- the home of a region that the plan has not
 abbrev pub blank : Home
 blank = record { primary = 0; first = 0; second = 0 }
 
--- a region past the last is blank
+-- three bytes for each region, behind the 21 bytes of the kind and the other fields
 abbrev pub home : List ℕ → ℕ → Home
 home e r =
     cond (ltb r (regions e))
@@ -53,6 +57,7 @@ home e r =
 abbrev pub homes : List ℕ → List Home
 homes e = map (home e) (counting 0 8)
 
+-- a set-up's machines, coordinators, regions and capacity in a byte each, start version and first number in eight each
 unfoldable pub plan : List ℕ → Plan
 plan e =
     record { machines = getD e 1 0; coordinators = getD e 2 0; regions = regions e; capacity = getD e 4 0; start = eight-at e 5; first = eight-at e 13; homes = homes e; eight = refl }
@@ -76,7 +81,7 @@ calls e =
     ∷ sized e 3 (Trim (coordinator e) (machine e))
     ∷ []
 
--- the steps by their kind: a set-up has kind 0
+-- the steps by their kind, from 0 to 10: a set-up, with its number of bytes, and then the calls
 abbrev pub steps : List ℕ → List (Option Step)
 steps e = mapped SetUp (sized e (21 + 3 * regions e) (plan e)) ∷ map (mapped ACall) (calls e)
 

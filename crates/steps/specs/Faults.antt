@@ -14,24 +14,25 @@ pub record Numbers : Type 0 where
   pub place : ℕ
   pub layer : ℕ
 
+-- a row of the tables below: cause, place and layer
 abbrev pub numbers : ℕ → ℕ → ℕ → Numbers
 numbers c p l = record { cause = c; place = p; layer = l }
 
--- the place of a file that is too long is the first byte past the limit, and that of a wrong version byte is the
--- version byte's; every other fault has the place of its entry's first byte
+-- layer 1: the place of a file that is too long is the first byte past the limit, and that of a wrong version byte is
+-- the version byte's; every other fault has the place of its entry's first byte
 abbrev pub frame-numbers : FrameFault → Numbers
 frame-numbers TooLong = numbers 12 65536 1
 frame-numbers BadVersion = numbers 13 0 1
 frame-numbers (CutShort p) = numbers 14 p 1
 
--- a fault of a lower layer keeps its numbers
+-- layer 2; a fault of layer 1 keeps its numbers
 abbrev pub entry-numbers : EntryFault → Numbers
 entry-numbers (Frame f) = frame-numbers f
 entry-numbers (UnknownKind p) = numbers 15 p 2
 entry-numbers (WrongLength p) = numbers 16 p 2
 entry-numbers (OutOfOrder p) = numbers 17 p 2
 
--- a refused set-up has its refusal's number as the cause
+-- layer 3: a refused set-up has its refusal's number as the cause; a fault of a lower layer keeps its numbers
 abbrev pub run-numbers : RunFault → Numbers
 run-numbers (Entry f) = entry-numbers f
 run-numbers (SetUp refusal p) = numbers (refusal-number refusal) p 3

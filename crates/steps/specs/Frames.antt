@@ -17,6 +17,7 @@ pub record Position : Type 0 where
   pub file : List ℕ
   pub place : ℕ
 
+-- the position at a place of a file
 abbrev pub at : List ℕ → ℕ → Position
 at bytes p = record { file = bytes; place = p }
 
@@ -39,6 +40,7 @@ end-of p = p .place + 2 + two-at (p .file) (p .place)
 abbrev pub whole? : Position → Bool
 whole? p = leb (end-of p) (length (p .file))
 
+-- the bytes that the two length bytes count
 abbrev pub entry : Position → Framed
 entry p = record { place = p .place; content = take (two-at (p .file) (p .place)) (drop (p .place + 2) (p .file)) }
 

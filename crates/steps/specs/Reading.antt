@@ -13,6 +13,7 @@ use Rattle.steps.specs.Frames.{Framed, Position, at}
 abbrev pub position : Reader → Position
 position r = at (r .bytes .now) (r .place)
 
+-- where the reader of the steps stands
 abbrev pub steps-position : Steps → Position
 steps-position s = position (s .reader)
 

@@ -1,7 +1,7 @@
 // What an entry's bytes stand for.
 ghost use mathlib.Core.Path.{_≡_};
 ghost use Prim.Native.Nat.{_+_, _*_, _≤_, _<_};
-ghost use lib.ListN.{length, getD};
+ghost use lib.ListN.{length};
 ghost use Rattle.std.specs.declared.option.Option.the-variants.{Some};
 ghost use Rattle.std.specs.Vec.{made};
 ghost use Rattle.std.specs.shelf.Maps.{nth};
@@ -12,16 +12,20 @@ ghost use Rattle.steps.specs.Entries.{coordinator, machine, address, value, re
 use crate::fault::EntryFault;
 use crate::frame::FIRST_PLACE;
 use protocol::call::Call;
-use protocol::plan::{Home, Plan};
+use protocol::plan::Home;
+use protocol::plan::Plan;
 
+// Trim has the highest kind.
 const LAST_KIND: u8 = 10;
 
+// What an entry asks for: a directory to be set up, or a call to be made.
 #[derive(Clone, Copy)]
 pub enum Step {
     SetUp(Plan),
     Call(Call),
 }
 
+// The functions below answer none where the entry has another length than theirs.
 fn just_coordinator(e: &[u8]) -> Option<u8>
     ensures { λ r. ⌜ r ≡ sized (now (e .entry)) 2 (coordinator (now (e .entry))) ⌝ }
 {
@@ -53,11 +57,11 @@ fn read(e: &[u8]) -> Option<Call>
 fn write(e: &[u8]) -> Option<Call>
     ensures { λ r. ⌜ r ≡ sized (now (e .entry)) 12 (Write (coordinator (now (e .entry))) (address (now (e .entry))) (value (now (e .entry)))) ⌝ }
 {
-    let [_, coordinator, high, low, a, b, c, d, e, f, g, h] = e else {
+    let [_, coordinator, high, low, v0, v1, v2, v3, v4, v5, v6, v7] = e else {
         return None;
     };
     let address = u16::from_be_bytes([*high, *low]);
-    let value = u64::from_be_bytes([*a, *b, *c, *d, *e, *f, *g, *h]);
+    let value = u64::from_be_bytes([*v0, *v1, *v2, *v3, *v4, *v5, *v6, *v7]);
     Some(Call::Write(*coordinator, address, value))
 }
 
@@ -65,7 +69,16 @@ fn eight_bytes(e: &[u8], i: usize) -> u64
     requires { ⌜ i + 8 ≤ length (now e) ⌝ }
     ensures { λ r. ⌜ r ≡ eight-at (now (e .entry)) i ⌝ }
 {
-    u64::from_be_bytes([e[i], e[i + 1], e[i + 2], e[i + 3], e[i + 4], e[i + 5], e[i + 6], e[i + 7]])
+    u64::from_be_bytes([
+        e[i],
+        e[i + 1],
+        e[i + 2],
+        e[i + 3],
+        e[i + 4],
+        e[i + 5],
+        e[i + 6],
+        e[i + 7],
+    ])
 }
 
 fn home_of(e: &[u8], region: usize) -> Home
@@ -74,9 +87,17 @@ fn home_of(e: &[u8], region: usize) -> Home
 {
     if region < e[3] as usize {
         let i = 21 + 3 * region;
-        Home { primary: e[i], first: e[i + 1], second: e[i + 2] }
+        Home {
+            primary: e[i],
+            first: e[i + 1],
+            second: e[i + 2],
+        }
     } else {
-        Home { primary: 0, first: 0, second: 0 }
+        Home {
+            primary: 0,
+            first: 0,
+            second: 0,
+        }
     }
 }
 
@@ -96,6 +117,7 @@ fn homes_of(e: &[u8]) -> [Home; 8]
     ]
 }
 
+// An entry that is too short to say how many regions it has is of another length, too.
 fn plan_of(e: &[u8]) -> Option<Plan>
     ensures { λ r. ⌜ r ≡ sized (now (e .entry)) (21 + 3 * regions (now (e .entry))) (plan (now (e .entry))) ⌝ }
 {

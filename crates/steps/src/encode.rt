@@ -8,11 +8,17 @@ ghost use Rattle.protocol.specs.declared.call.Call.the-variants.{Write};
 ghost use Rattle.steps.specs.Encoding.{home-bytes, encoded-call, encoded-plan, encoded, Decodes-back};
 use crate::decode::Step;
 use protocol::call::Call;
-use protocol::plan::{Home, Plan};
+use protocol::plan::Home;
+use protocol::plan::Plan;
 use std::alloc::AllocError;
 use std::alloc::Global;
 
-fn encode_write(heap: Global, coordinator: u8, address: u16, value: u64) -> Result<Vec<u8>, AllocError>
+fn encode_write(
+    heap: Global,
+    coordinator: u8,
+    address: u16,
+    value: u64,
+) -> Result<Vec<u8>, AllocError>
     ensures { λ r. ⌜ made r (λ v. vec-items v ≡ encoded-call (Write coordinator address value)) ⌝ }
 {
     let [high, low] = address.to_be_bytes();
@@ -53,9 +59,16 @@ fn add_homes(out: &mut Vec<u8>, homes: &[Home]) -> Result<(), AllocError>
 fn encode_plan(heap: Global, plan: &Plan) -> Result<Vec<u8>, AllocError>
     ensures { λ r. ⌜ made r (λ v. vec-items v ≡ encoded-plan (now (plan .entry))) ⌝ }
 {
-    let mut out = [0, plan.machines, plan.coordinators, plan.regions, plan.capacity].to_vec(heap)?;
+    let mut out = [
+        0,
+        plan.machines,
+        plan.coordinators,
+        plan.regions,
+        plan.capacity,
+    ].to_vec(heap)?;
     out.extend_from_slice(&plan.start.to_be_bytes())?;
     out.extend_from_slice(&plan.first.to_be_bytes())?;
+    // a plan of more regions has no more homes
     let count = (plan.regions as usize).min(8);
     add_homes(&mut out, &plan.homes[0..count])?;
     Ok(out)

@@ -3,6 +3,7 @@ ghost use mathlib.Core.Path.{_≡_};
 ghost use Rattle.steps.specs.Faults.{frame-numbers, entry-numbers, run-numbers};
 ghost use Rattle.steps.specs.declared.fault.EntryFault.the-variants.{Frame};
 ghost use Rattle.steps.specs.declared.fault.RunFault.the-variants.{Entry};
+use crate::frame::LIMIT;
 use protocol::call::Refusal;
 
 // The bytes do not make a row of entries. `place` is where an entry begins.
@@ -45,6 +46,7 @@ pub impl From<EntryFault> for RunFault as RunFromEntry {
     }
 }
 
+// The three numbers that are printed.
 impl RunFault {
     pub fn cause(self) -> u8
         ensures { λ r. ⌜ r ≡ run-numbers self .cause ⌝ }
@@ -64,7 +66,7 @@ impl RunFault {
         ensures { λ r. ⌜ r ≡ run-numbers self .place ⌝ }
     {
         match self {
-            RunFault::Entry(EntryFault::Frame(FrameFault::TooLong)) => 65536,
+            RunFault::Entry(EntryFault::Frame(FrameFault::TooLong)) => LIMIT,
             RunFault::Entry(EntryFault::Frame(FrameFault::BadVersion)) => 0,
             RunFault::Entry(EntryFault::Frame(FrameFault::CutShort { place })) => place,
             RunFault::Entry(EntryFault::UnknownKind { place }) => place,
@@ -80,7 +82,10 @@ impl RunFault {
         match self {
             RunFault::Entry(EntryFault::Frame(_)) => 1,
             RunFault::Entry(_) => 2,
-            RunFault::SetUp { refusal: _, place: _ } => 3,
+            RunFault::SetUp {
+                refusal: _,
+                place: _,
+            } => 3,
         }
     }
 }

@@ -2,15 +2,15 @@
 ghost use mathlib.Core.Path.{_≡_};
 ghost use Rattle.std.specs.Results.{mapped};
 ghost use Rattle.std.specs.Vec.{made};
-ghost use Rattle.steps.specs.Frames.{at, opened, entry-at, passed};
+ghost use Rattle.steps.specs.Frames.{opened, entry-at, passed};
 ghost use Rattle.steps.specs.Laws.{Lossless, Reads-back};
 ghost use Rattle.steps.specs.Reading.{position, said};
 use crate::fault::FrameFault;
 
 // The most bytes that a file may have.
-const LIMIT: usize = 65536;
+pub const LIMIT: usize = 65536;
 
-const VERSION: u8 = 1;
+pub const VERSION: u8 = 1;
 
 // Where the first entry begins: behind the version byte.
 pub const FIRST_PLACE: usize = 1;
@@ -29,30 +29,25 @@ pub struct Reader<'a> {
     place: usize,
 }
 
-// Where the first entry of a file begins.
-fn start(bytes: &[u8]) -> Result<usize, FrameFault>
-    ensures { λ r. ⌜ mapped (at (now (bytes .entry))) (λ f. f) r ≡ opened (now (bytes .entry)) ⌝ }
-{
-    if bytes.len() > LIMIT {
-        return Err(FrameFault::TooLong);
-    }
-    let [version, ..] = bytes else {
-        return Err(FrameFault::BadVersion);
-    };
-    if *version != VERSION {
-        return Err(FrameFault::BadVersion);
-    }
-    Ok(FIRST_PLACE)
-}
-
 impl<'a> Reader<'a> {
     pub fn open(bytes: &'a [u8]) -> Result<Reader<'a>, FrameFault>
         ensures position { λ r. ⌜ mapped position (λ f. f) r ≡ opened (now (bytes .entry)) ⌝ }
         ensures lossless { λ r. ⌜ made r (λ x. Lossless (now (bytes .entry)) (position x)) ⌝ }
         ensures reads_back { λ r. ⌜ made r (λ x. Reads-back (now (bytes .entry)) (position x)) ⌝ }
     {
-        let place = start(bytes)?;
-        Ok(Reader { bytes, place })
+        if bytes.len() > LIMIT {
+            return Err(FrameFault::TooLong);
+        }
+        let Some(version) = bytes.first() else {
+            return Err(FrameFault::BadVersion);
+        };
+        if *version != VERSION {
+            return Err(FrameFault::BadVersion);
+        }
+        Ok(Reader {
+            bytes,
+            place: FIRST_PLACE,
+        })
     }
 
     // The next entry, or none at the end of the file. After a fault the reader stays where it was.

@@ -1,12 +1,16 @@
 // The steps of a file, one after the other.
 ghost use mathlib.Core.Path.{_≡_};
 ghost use Rattle.std.specs.Results.{mapped};
+ghost use Rattle.std.specs.Vec.{made};
 ghost use Rattle.steps.specs.declared.fault.EntryFault.the-variants.{Frame};
 ghost use Rattle.steps.specs.Frames.{opened};
+ghost use Rattle.steps.specs.Laws.{Lossless, Reads-back};
 ghost use Rattle.steps.specs.Sequence.{step-at, moved};
 ghost use Rattle.steps.specs.Reading.{steps-position};
-use crate::decode::{Step, decode};
-use crate::fault::{EntryFault, EntryFromFrame};
+use crate::decode::Step;
+use crate::decode::decode;
+use crate::fault::EntryFault;
+use crate::fault::EntryFromFrame;
 use crate::frame::Reader;
 
 // A step and where its entry begins.
@@ -16,6 +20,7 @@ pub struct Placed {
     pub step: Step,
 }
 
+// A file whose entries are read as steps.
 #[derive(Clone, Copy)]
 pub struct Steps<'a> {
     reader: Reader<'a>,
@@ -23,7 +28,9 @@ pub struct Steps<'a> {
 
 impl<'a> Steps<'a> {
     pub fn open(bytes: &'a [u8]) -> Result<Steps<'a>, EntryFault>
-        ensures { λ r. ⌜ mapped steps-position (λ f. f) r ≡ mapped (λ p. p) Frame (opened (now (bytes .entry))) ⌝ }
+        ensures position { λ r. ⌜ mapped steps-position (λ f. f) r ≡ mapped (λ p. p) Frame (opened (now (bytes .entry))) ⌝ }
+        ensures lossless { λ r. ⌜ made r (λ x. Lossless (now (bytes .entry)) (steps-position x)) ⌝ }
+        ensures reads_back { λ r. ⌜ made r (λ x. Reads-back (now (bytes .entry)) (steps-position x)) ⌝ }
     {
         let reader = Reader::open(bytes)?;
         Ok(Steps { reader })

@@ -16,6 +16,7 @@ returns c =
     let size : c .in-Ok .size ≡ length entry = omega (arith, c .in-Ok .ensures tt) in
     let bytes = c .to-be-bytes .result in
     let first = pushed bytes (c .reserve .ensures .items) (c .in-Continue-extend-from-slice .was tt) (c .extend-from-slice .ensures .items) in
-    let both = pushed entry first (c .in-Continue-extend-from-slice-2 .was tt) (c .extend-from-slice-2 .ensures .items) in
-    (omega (arith, c .in-Ok .ensures tt),
-        both ∙ append-assoc was bytes entry ∙ ap (λ xs. was ++ (xs ++ entry)) (c .to-be-bytes .ensures ∙ ap (big-endian 2) size))
+    let both = pushed entry first (c .in-Continue-extend-from-slice-2 .was tt) (c .extend-from-slice-2 .ensures .items) in (
+      omega (arith, c .in-Ok .ensures tt),
+      both ∙ append-assoc was bytes entry ∙ ap (λ xs. was ++ (xs ++ entry)) (c .to-be-bytes .ensures ∙ ap (big-endian 2) size),
+    )

@@ -1,5 +1,5 @@
 -- An opened file is read without loss, and what was written as a file is read back.
-use mathlib.Core.Path.{_≡_, sym}
+use mathlib.Core.Path.{_≡_}
 use Prim.Native.Nat.{_<_}
 use borrow.Author.Needs.{needs}
 use Rattle.std.specs.declared.result.Result.the-variants.{Ok}
@@ -12,10 +12,9 @@ use Rattle.steps.proofs.frame.Reader.open.Needs as need
 pub returns : need.returns
 returns c =
     let bytes = c .args .bytes .now in
-    let start = at bytes (c .in-Continue-place .place) in
-    let begun : opened bytes ≡ Ok start = sym (c .in-Continue-place .ensures tt) in
+    let begun : opened bytes ≡ Ok (at bytes 1) = search needs in
     record {
       position = search needs;
-      lossless = lossless bytes start (all-from-getD (λ d. d < 256) bytes 0 (λ i _. c .typed .bytes i .fits)) begun;
-      reads-back = reads-back bytes start begun
+      lossless = lossless bytes (at bytes 1) (all-from-getD (λ d. d < 256) bytes 0 (λ i _. c .typed .bytes i .fits)) begun;
+      reads-back = reads-back bytes (at bytes 1) begun;
     }
