@@ -68,9 +68,9 @@ module _ (p : Plan) (few : p .machines ≤ 5) (old t : Work) (is : t .phase ≡ 
   unfolding phase-of
   as-locking =
       let a : due-from p (t .due) (at-primary? p (writes-of t)) ≡ primary-machines p ws =
-            ap (λ (d : ℕ). due-from p d (at-primary? p (writes-of t))) due
-            ∙ ap (λ (n : ℕ). filter (at-primary? p (writes-of t)) (counting 0 n)) none-before
-            ∙ ap (primary-machines p) same-writes in
+      ap (λ (d : ℕ). due-from p d (at-primary? p (writes-of t))) due
+      ∙ ap (λ (n : ℕ). filter (at-primary? p (writes-of t)) (counting 0 n)) none-before
+      ∙ ap (primary-machines p) same-writes in
       let b = all-awaited in
       cc
 
@@ -78,8 +78,8 @@ module _ (p : Plan) (few : p .machines ≤ 5) (old t : Work) (is : t .phase ≡ 
   unfolding phase-of
   as-checking none =
       ap protocol.Checking
-      ( ap (λ (d : ℕ). read-only (drop d (reads-of t)) (writes-of t)) passed
-      ∙ ap (λ (ls : List Line). read-only (reads-of t) ls) (same-writes ∙ none) ∙ all-read-only (reads-of t) ∙ same-reads )
+      (ap (λ (d : ℕ). read-only (drop d (reads-of t)) (writes-of t)) passed
+      ∙ ap (λ (ls : List Line). read-only (reads-of t) ls) (same-writes ∙ none) ∙ all-read-only (reads-of t) ∙ same-reads)
 
   by-cases : (x y : Bool) → (x ≡ true → ws ≡ []) → phase-of p t (cond x (cond y Idle Checking) Locking) ≡ cond x (cond y protocol.Idle (protocol.Checking rs)) lock-all
   unfolding phase-of

@@ -100,12 +100,12 @@ module _ (p : Plan) (w : World) (c : ℕ) (in′ : Inside p w c) (e : Coordinato
             work-changes p w (Commit c) in′ words d t (first-phase p (reads-of (then .work)) (writes-of (then .work))) n (reads-of (then .work)) (writes-of (then .work)) number 0 o
             (λ s. stands (commit-sizes .machines .1))
             (λ s.
-              let moved : number ≡ next-of (then .work .next) = sym (ap next-of next-then) in
-              let o-is : first-outcome (reads-of (then .work)) (writes-of (then .work)) ≡ o =
-                    outcome-by-counts (reads-of (then .work)) (writes-of (then .work)) (then .work .nreads) (then .work .nwrites) (count-reads (then .work)) (count-writes (then .work))
-                    ∙ sym (subst (λ (z : Coordinator). o ≡ outcome-by (z .work .nreads) (z .work .nwrites)) same ends) in
-              accepts p _ (commits (ap (phase-of p (then .work)) (subst (λ (z : Coordinator). z .work .phase ≡ tables.Open) same is) ∙ as-open p (then .work))
-                (subst (λ (k : ℕ). k < 2 ^ 64) moved small) (room-then s))
-              ∙ ap (λ (k : ℕ). Ok (record { answer = answered k 0 (first-outcome (reads-of (then .work)) (writes-of (then .work))); after = own-left p w (Commit c) in′ words d (first-phase p (reads-of (then .work)) (writes-of (then .work))) (suc k) (reads-of (then .work)) (writes-of (then .work)) })) (sym moved)
-              ∙ ap (λ (z : Outcome). Ok (record { answer = answered number 0 z; after = own-left p w (Commit c) in′ words d (first-phase p (reads-of (then .work)) (writes-of (then .work))) (suc number) (reads-of (then .work)) (writes-of (then .work)) })) o-is
-              ∙ ap (λ (k : ℕ). Ok (record { answer = answered number 0 o; after = own-left p w (Commit c) in′ words d (first-phase p (reads-of (then .work)) (writes-of (then .work))) k (reads-of (then .work)) (writes-of (then .work)) })) (sym more))
+            let moved : number ≡ next-of (then .work .next) = sym (ap next-of next-then) in
+            let o-is : first-outcome (reads-of (then .work)) (writes-of (then .work)) ≡ o =
+            outcome-by-counts (reads-of (then .work)) (writes-of (then .work)) (then .work .nreads) (then .work .nwrites) (count-reads (then .work)) (count-writes (then .work))
+            ∙ sym (subst (λ (z : Coordinator). o ≡ outcome-by (z .work .nreads) (z .work .nwrites)) same ends) in
+            accepts p _ (commits (ap (phase-of p (then .work)) (subst (λ (z : Coordinator). z .work .phase ≡ tables.Open) same is) ∙ as-open p (then .work))
+            (subst (λ (k : ℕ). k < 2 ^ 64) moved small) (room-then s))
+            ∙ ap (λ (k : ℕ). Ok (record { answer = answered k 0 (first-outcome (reads-of (then .work)) (writes-of (then .work))); after = own-left p w (Commit c) in′ words d (first-phase p (reads-of (then .work)) (writes-of (then .work))) (suc k) (reads-of (then .work)) (writes-of (then .work)) })) (sym moved)
+            ∙ ap (λ (z : Outcome). Ok (record { answer = answered number 0 z; after = own-left p w (Commit c) in′ words d (first-phase p (reads-of (then .work)) (writes-of (then .work))) (suc number) (reads-of (then .work)) (writes-of (then .work)) })) o-is
+            ∙ ap (λ (k : ℕ). Ok (record { answer = answered number 0 o; after = own-left p w (Commit c) in′ words d (first-phase p (reads-of (then .work)) (writes-of (then .work))) k (reads-of (then .work)) (writes-of (then .work)) })) (sym more))

@@ -79,12 +79,13 @@ module _ (p : Plan) (w : World) (call : Call) where
 
   -- a call that is not let in
   turned-away : (n : Refusal) → Err n ≡ admitted p w c → Does p w w (Err n) call
-  turned-away n e = record
-    { steps = λ s. turned n (fine? p) (fits? p w) (ltb c (p .coordinators)) (local-call p (local-at v c) call) e
-    ; stays-sound = λ s. s
-    ; bad-call = λ m f. let same : _≡_ {A = Try (Unit {0})} (Err n) (Err m) = e ∙ f in cc
-    ; refused-unchanged = refl
-    ; rest = record { coordinators = refl; records = refl; replies = refl } }
+  turned-away n e = record {
+    steps = λ s. turned n (fine? p) (fits? p w) (ltb c (p .coordinators)) (local-call p (local-at v c) call) e;
+    stays-sound = λ s. s;
+    bad-call = λ m f. let same : _≡_ {A = Try (Unit {0})} (Err n) (Err m) = e ∙ f in cc;
+    refused-unchanged = refl;
+    rest = record { coordinators = refl; records = refl; replies = refl };
+  }
 
   -- the same, as a `?` hands the refusal on
   pub handed-on : (r : Result Answer Refusal) (n : Refusal) → ErrBy r (λ m. m ≡ n) → Err n ≡ admitted p w c → Does p w w r call
@@ -138,33 +139,36 @@ module _ (p : Plan) (w : World) (call : Call) where
 
     -- a refused call
     pub refuses : (d : Coordinator) (n : Refusal) → (Sound p w → local-call p (here d) call ≡ Err n) → Does p w w (Err n) call
-    refuses d n e = record
-      { steps = λ s. reached (Err n) (at-here d (Err n) (e s))
-      ; stays-sound = λ s. s
-      ; bad-call = not-bad (Err n)
-      ; refused-unchanged = refl
-      ; rest = record { coordinators = refl; records = refl; replies = refl } }
+    refuses d n e = record {
+      steps = λ s. reached (Err n) (at-here d (Err n) (e s));
+      stays-sound = λ s. s;
+      bad-call = not-bad (Err n);
+      refused-unchanged = refl;
+      rest = record { coordinators = refl; records = refl; replies = refl };
+    }
 
     -- a call that is refused whatever the coordinator is
     pub refuses-always : (n : Refusal) → ((x : Local) → local-call p x call ≡ Err n) → Does p w w (Err n) call
-    refuses-always n e = record
-      { steps = λ s. reached (Err n) (e (local-at v c))
-      ; stays-sound = λ s. s
-      ; bad-call = not-bad (Err n)
-      ; refused-unchanged = refl
-      ; rest = record { coordinators = refl; records = refl; replies = refl } }
+    refuses-always n e = record {
+      steps = λ s. reached (Err n) (e (local-at v c));
+      stays-sound = λ s. s;
+      bad-call = not-bad (Err n);
+      refused-unchanged = refl;
+      rest = record { coordinators = refl; records = refl; replies = refl };
+    }
 
     -- an accepted call that changes nothing
     pub only-answers : (d : Coordinator) (a : Answer) → (Sound p w → local-call p (here d) call ≡ Ok (record { answer = a; after = here d })) → Does p w w (Ok a) call
-    only-answers d a e = record
-      { steps = λ s.
+    only-answers d a e = record {
+      steps = λ s.
           ap (λ (f : ℕ → protocol.Coordinator). stepped (Ok a) (state f (w .primaries) (w .firsts) (w .seconds)))
-            (sym (ap (upd (v .coordinators) c) (sym (at-own d)) ∙ upd-own (v .coordinators) c))
-          ∙ reached (Ok (record { answer = a; after = here d })) (at-here d _ (e s))
-      ; stays-sound = λ s. s
-      ; bad-call = not-bad (Ok a)
-      ; refused-unchanged = tt
-      ; rest = record { coordinators = refl; records = refl; replies = refl } }
+          (sym (ap (upd (v .coordinators) c) (sym (at-own d)) ∙ upd-own (v .coordinators) c))
+          ∙ reached (Ok (record { answer = a; after = here d })) (at-here d _ (e s));
+      stays-sound = λ s. s;
+      bad-call = not-bad (Ok a);
+      refused-unchanged = tt;
+      rest = record { coordinators = refl; records = refl; replies = refl };
+    }
 
     -- coordinator c is another, and the tables and memories too, but for what the other coordinators have in the tables
     module _ (proper : Proper-words p (w .primaries)) (d : Coordinator) (co : Coordinator) (rs : List Record) (qs : List Reply)
@@ -187,18 +191,20 @@ module _ (p : Plan) (w : World) (call : Call) where
         invariant-left s j =
             subst (λ (f : ℕ → protocol.Coordinator). Invariant p (f j)) (sym (coordinators-left s))
             (⊎-elim
-              (λ e. subst (Invariant p) (sym (upd-same (v .coordinators) c (acc .after .own) j e)) (calls-keep p (here d) call acc proper (invariant-of d s) (accepted s)))
-              (λ n. subst (Invariant p) (sym (upd-other (v .coordinators) c (acc .after .own) j n)) (s .invariant j))
-              (cases-eq j c))
+            (λ e. subst (Invariant p) (sym (upd-same (v .coordinators) c (acc .after .own) j e)) (calls-keep p (here d) call acc proper (invariant-of d s) (accepted s)))
+            (λ n. subst (Invariant p) (sym (upd-other (v .coordinators) c (acc .after .own) j n)) (s .invariant j))
+            (cases-eq j c))
 
         pub changes : Does p w left (Ok (acc .answer)) call
-        changes = record
-          { steps = λ s.
+        changes = record {
+          steps = λ s.
               ap (λ (f : ℕ → protocol.Coordinator). stepped (Ok (acc .answer)) (state f (acc .after .primaries) (acc .after .firsts) (acc .after .seconds))) (coordinators-left s)
-              ∙ reached (Ok acc) (at-here d (Ok acc) (accepted s))
-          ; stays-sound = λ s. record
-              { rings = first-set p (w .coordinators) (w .records) c under (fit .coordinators) (Rings p) co (s .rings) (rings s)
-              ; invariant = invariant-left s }
-          ; bad-call = not-bad (Ok (acc .answer))
-          ; refused-unchanged = tt
-          ; rest = rest }
+              ∙ reached (Ok acc) (at-here d (Ok acc) (accepted s));
+          stays-sound = λ s. record {
+            rings = first-set p (w .coordinators) (w .records) c under (fit .coordinators) (Rings p) co (s .rings) (rings s);
+            invariant = invariant-left s;
+          };
+          bad-call = not-bad (Ok (acc .answer));
+          refused-unchanged = tt;
+          rest = rest;
+        }

@@ -168,8 +168,9 @@ module _ (p : Plan) (w : World) (c m : ℕ) (in′ : Inside p w c) (below : m < 
         → ring.Sound r (p .capacity) → ring.Sound q 4 → Rings p co′
     rings-after s co′ r q e f sr sq =
         let was = rings s in
-        record
-        { five-logs = ap length e ∙ length-set (co .logs) m r ∙ was .five-logs
-        ; five-queues = ap length f ∙ length-set (co .queues) m q ∙ was .five-queues
-        ; logs = rw e (all-set (λ t. ring.Sound t (p .capacity)) (co .logs) m r sr (was .logs))
-        ; queues = rw f (all-set (λ t. ring.Sound t 4) (co .queues) m q sq (was .queues)) }
+        record {
+          five-logs = ap length e ∙ length-set (co .logs) m r ∙ was .five-logs;
+          five-queues = ap length f ∙ length-set (co .queues) m q ∙ was .five-queues;
+          logs = rw e (all-set (λ t. ring.Sound t (p .capacity)) (co .logs) m r sr (was .logs));
+          queues = rw f (all-set (λ t. ring.Sound t 4) (co .queues) m q sq (was .queues));
+        }

@@ -27,32 +27,34 @@ sizes-of p e =
     let k = and-parts _ (within? 4 16 (p .capacity)) (b .0) in
     let r = and-parts _ (within? 1 8 (p .regions)) (k .0) in
     let c = and-parts _ (within? 1 4 (p .coordinators)) (r .0) in
-    record
-    { machines = between 3 5 _ (c .0)
-    ; coordinators = between 1 4 _ (c .1) .1
-    ; regions = between 1 8 _ (r .1) .1
-    ; capacity = between 4 16 _ (k .1)
-    ; start = ltb-true _ _ (b .1) }
+    record {
+      machines = between 3 5 _ (c .0);
+      coordinators = between 1 4 _ (c .1) .1;
+      regions = between 1 8 _ (r .1) .1;
+      capacity = between 4 16 _ (k .1);
+      start = ltb-true _ _ (b .1);
+    }
 
 pub record Fits (p : Plan) (w : World) : Type 0 where
   pub coordinators : p .coordinators ≤ length (w .coordinators)
   pub records : p .coordinators * p .machines * p .capacity ≤ length (w .records)
   pub replies : p .coordinators * p .machines * 4 ≤ length (w .replies)
-  pub primaries : length (w  .primaries) ≡ size p
-  pub firsts : length (w  .firsts) ≡ size p
-  pub seconds : length (w  .seconds) ≡ size p
+  pub primaries : length (w .primaries) ≡ size p
+  pub firsts : length (w .firsts) ≡ size p
+  pub seconds : length (w .seconds) ≡ size p
 
 pub fits-of : (p : Plan) (w : World) → true ≡ fits? p w → Fits p w
 fits-of p w e =
     let a = and-parts (leb (p .coordinators) (length (w .coordinators))) _ (sym e) in
     let b = and-parts (leb (p .coordinators * p .machines * p .capacity) (length (w .records))) _ (a .1) in
     let d = and-parts (leb (p .coordinators * p .machines * 4) (length (w .replies))) _ (b .1) in
-    let f = and-parts (eqb (length (w  .primaries)) (size p)) _ (d .1) in
-    let g = and-parts (eqb (length (w  .firsts)) (size p)) _ (f .1) in
-    record
-    { coordinators = leb-true _ _ (a .0)
-    ; records = leb-true _ _ (b .0)
-    ; replies = leb-true _ _ (d .0)
-    ; primaries = eqb-true _ _ (f .0)
-    ; firsts = eqb-true _ _ (g .0)
-    ; seconds = eqb-true _ _ (g .1) }
+    let f = and-parts (eqb (length (w .primaries)) (size p)) _ (d .1) in
+    let g = and-parts (eqb (length (w .firsts)) (size p)) _ (f .1) in
+    record {
+      coordinators = leb-true _ _ (a .0);
+      records = leb-true _ _ (b .0);
+      replies = leb-true _ _ (d .0);
+      primaries = eqb-true _ _ (f .0);
+      firsts = eqb-true _ _ (g .0);
+      seconds = eqb-true _ _ (g .1);
+    }

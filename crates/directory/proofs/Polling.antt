@@ -60,18 +60,20 @@ use Rattle.directory.proofs.Pairs as pairs
 
 -- the coordinator after its record was polled at machine m
 abbrev pub passed-own : protocol.Coordinator → ℕ → Note → List Note → Bool → Kind → protocol.Coordinator
-passed-own k m r rest granted kind = record
-  { phase = k .phase
-  ; next = k .next
-  ; reads = k .reads
-  ; writes = k .writes
-  ; logs = upd (k .logs) m (passed-log (k .logs m .polled) r rest kind)
-  ; queues = upd (k .queues) m (replied (k .queues m) (r .number) granted kind) }
+passed-own k m r rest granted kind = record {
+  phase = k .phase;
+  next = k .next;
+  reads = k .reads;
+  writes = k .writes;
+  logs = upd (k .logs) m (passed-log (k .logs m .polled) r rest kind);
+  queues = upd (k .queues) m (replied (k .queues m) (r .number) granted kind);
+}
 
 abbrev leaves-effect : Local → ℕ → Note → List Note → Kind → Effect → Accepted
-leaves-effect x m r rest kind e = record
-  { answer = answered (number-of kind) (e .count) Going
-  ; after = local (passed-own (x .own) m r rest (e .granted) kind) (e .primaries) (e .firsts) (e .seconds) }
+leaves-effect x m r rest kind e = record {
+  answer = answered (number-of kind) (e .count) Going;
+  after = local (passed-own (x .own) m r rest (e .granted) kind) (e .primaries) (e .firsts) (e .seconds);
+}
 
 -- a poll is its record's effect on the memories, and its passing on the pair
 module _ (p : Plan) (x : Local) (c m : ℕ) (r : Note) (rest : List Note) where
@@ -80,9 +82,10 @@ module _ (p : Plan) (x : Local) (c m : ℕ) (r : Note) (rest : List Note) where
 
   -- with the queues q; one that takes no reply is as it was
   abbrev with-queues : Kind → Effect → (ℕ → List Reply) → Accepted
-  with-queues kind e q = record
-    { answer = answered (number-of kind) (e .count) Going
-    ; after = local (record { phase = x .own .phase; next = x .own .next; reads = x .own .reads; writes = x .own .writes; logs = upd (x .own .logs) m (passed-log (x .own .logs m .polled) r rest kind); queues = q }) (e .primaries) (e .firsts) (e .seconds) }
+  with-queues kind e q = record {
+    answer = answered (number-of kind) (e .count) Going;
+    after = local (record { phase = x .own .phase; next = x .own .next; reads = x .own .reads; writes = x .own .writes; logs = upd (x .own .logs) m (passed-log (x .own .logs m .polled) r rest kind); queues = q }) (e .primaries) (e .firsts) (e .seconds);
+  }
 
   unreplied : (kind : Kind) → _≡_ {A = Try Accepted} (Ok (with-queues kind (does kind) (x .own .queues))) (Ok (with-queues kind (does kind) (upd (x .own .queues) m (x .own .queues m))))
   unreplied kind = ap (λ (q : ℕ → List Reply). Ok (with-queues kind (does kind) q)) (sym (upd-own (x .own .queues) m))
@@ -166,11 +169,12 @@ module _ (p : Plan) (w : World) (c m : ℕ) (in′ : Inside p w c) where
           (all-append _ (reverse (log k m .polled)) (log k m .waiting) (all-reverse _ (log k m .polled) (inv s .polled m below)) (inv s .waiting m below))
 
       ready : Sound p w → Ready p (log-at d) slots (w .primaries) (w .firsts) (w .seconds)
-      ready s = let fit = fits-of p w (in′ .fits) in record
-        { lines = record { stands = log-stands d s; few = omega (arith, pairs.long-slots p w c m in′ below, few .capacity .1); lines = all-lines s }
-        ; primaries = fit .primaries
-        ; firsts = fit .firsts
-        ; seconds = fit .seconds }
+      ready s = let fit = fits-of p w (in′ .fits) in record {
+        lines = record { stands = log-stands d s; few = omega (arith, pairs.long-slots p w c m in′ below, few .capacity .1); lines = all-lines s };
+        primaries = fit .primaries;
+        firsts = fit .firsts;
+        seconds = fit .seconds;
+      }
 
       -- at most one reply waits, so there is a free place
       queue-short : Sound p w → queue-at d .len < length places
@@ -197,17 +201,17 @@ module _ (p : Plan) (w : World) (c m : ℕ) (in′ : Inside p w c) where
         accepted s =
             polls-as p (here p w (Poll c m) in′ d) c m (note x) rest (x .kind) (record { machine = below; waiting = waiting-is s; kind = refl }) (effect n t a b z)
             (does-so (ready s) (next-lines p k (inv s) m below (note x) rest (waiting-is s)) (omega (arith, ltb-true c (p .coordinators) (sym (in′ .below)), few .coordinators))
-              ∙ ap (λ (ns : List Note). handled p c m (w .primaries) (w .firsts) (w .seconds) ns (note x) (x .kind)) (sym (polled-is s)))
+            ∙ ap (λ (ns : List Note). handled p c m (w .primaries) (w .firsts) (w .seconds) ns (note x) (x .kind)) (sym (polled-is s)))
 
         own-after : Sound p w → own p (w .records) replies′ c co′ ≡ passed-own k m (note x) rest t (x .kind)
         unfolding own
         own-after s =
             let logs : _≡_ {A = ℕ → Log} (logs-of p (w .records) c (set (co .logs) m r)) (passed-own k m (note x) rest t (x .kind) .logs) =
-                  pairs.log-moved p w c m in′ below d s r
-                  ∙ ap (upd (logs-of p (w .records) c (co .logs)) m) (passes (log-stands d s) x (next (log-stands d s)) ∙ ap (λ (ns : List Note). passed-log ns (note x) rest (x .kind)) (sym (polled-is s))) in
+            pairs.log-moved p w c m in′ below d s r
+            ∙ ap (upd (logs-of p (w .records) c (co .logs)) m) (passes (log-stands d s) x (next (log-stands d s)) ∙ ap (λ (ns : List Note). passed-log ns (note x) rest (x .kind)) (sym (polled-is s))) in
             let queues : _≡_ {A = ℕ → List Reply} (queues-of p replies′ c (set (co .queues) m q)) (passed-own k m (note x) rest t (x .kind) .queues) =
-                  pairs.queue-written p w c m in′ below d s q ys long
-                  ∙ ap (upd (queues-of p (w .replies) c (co .queues)) m) (replies (queue-stands d s) (queue-short s) ∙ ap (λ (l : List Reply). replied l (x .number) t (x .kind)) (sym (queue-is d s))) in
+            pairs.queue-written p w c m in′ below d s q ys long
+            ∙ ap (upd (queues-of p (w .replies) c (co .queues)) m) (replies (queue-stands d s) (queue-short s) ∙ ap (λ (l : List Reply). replied l (x .number) t (x .kind)) (sym (queue-is d s))) in
             cc
 
         own-apart : (j : ℕ) (y : Coordinator) → (j ≡ c → ⊥) → own p (w .records) replies′ j y ≡ own p (w .records) (w .replies) j y
@@ -220,8 +224,8 @@ module _ (p : Plan) (w : World) (c m : ℕ) (in′ : Inside p w c) where
             (record { answer = answered (number-of (x .kind)) n Going; after = local (passed-own k m (note x) rest t (x .kind)) a b z })
             accepted own-after
             (λ s. pairs.rings-after p w c m in′ below d s co′ r q refl refl
-              (subst (ring.Sound r) (pairs.long-slots p w c m in′ below) (r-stands (log-stands d s)))
-              (subst (ring.Sound q) (pairs.long-places p w c m in′ below) (q-stands (queue-stands d s))))
+            (subst (ring.Sound r) (pairs.long-slots p w c m in′ below) (r-stands (log-stands d s)))
+            (subst (ring.Sound q) (pairs.long-places p w c m in′ below) (q-stands (queue-stands d s))))
             (record { coordinators = drop-set-lt _ _ _ _ (ltb-true c (p .coordinators) (sym (in′ .below))); records = refl; replies = pairs.replies-rest p w c m in′ below ys long })
 
     -- The same as the code has it: the entry was read twice, and the slots and places are parts of the tables.
@@ -231,17 +235,17 @@ module _ (p : Plan) (w : World) (c m : ℕ) (in′ : Inside p w c) where
           (x : Record) → (ring.Sound (getD (e .logs) m no-ring) (length part) → Next-is (notes (getD (e .logs) m no-ring) part) (getD (e .logs) m no-ring .cursor) (Some x))
           → (n : ℕ) (t : Bool) (a b z : Words)
           → (Ready p (getD (e .logs) m no-ring) part (w .primaries) (w .firsts) (w .seconds) → Lines p (note x .lines) → c < 15
-            → effect n t a b z ≡ handled p c m (w .primaries) (w .firsts) (w .seconds) (polled (getD (e .logs) m no-ring) part) (note x) (x .kind))
+          → effect n t a b z ≡ handled p c m (w .primaries) (w .firsts) (w .seconds) (polled (getD (e .logs) m no-ring) part) (note x) (x .kind))
           → (r q : Ring) (ys : List Reply) → length ys ≡ length answers
           → (ring.Sound (getD (o .logs) m no-ring) (length part) → ring.Sound r (length part))
           → (ring.Sound (getD (o .logs) m no-ring) (length part) → (y : Record) → Next-is (notes (getD (o .logs) m no-ring) part) (getD (o .logs) m no-ring .cursor) (Some y)
-            → log-of r part ≡ passed-log (polled (getD (o .logs) m no-ring) part) (note y) (drop (getD (o .logs) m no-ring .cursor + 1) (notes (getD (o .logs) m no-ring) part)) (x .kind))
+          → log-of r part ≡ passed-log (polled (getD (o .logs) m no-ring) part) (note y) (drop (getD (o .logs) m no-ring .cursor + 1) (notes (getD (o .logs) m no-ring) part)) (x .kind))
           → (ring.Sound (getD (o .queues) m no-ring) (length answers) → ring.Sound q (length answers))
           → (ring.Sound (getD (o .queues) m no-ring) (length answers) → getD (o .queues) m no-ring .len < length answers
-            → contents q ys ≡ replied (contents (getD (o .queues) m no-ring) answers) (x .number) t (x .kind))
+          → contents q ys ≡ replied (contents (getD (o .queues) m no-ring) answers) (x .number) t (x .kind))
           → (first : ℕ) → first ≡ number-of (x .kind)
           → Does p w (world (set (w .coordinators) c (record { work = o .work; logs = set (o .logs) m r; queues = set (o .queues) m q })) (w .records) (putMid ((c * p .machines + m) * 4) j (w .replies) ys) a b z)
-              (Ok (answered first n Going)) (Poll c m)
+          (Ok (answered first n Going)) (Poll c m)
 
       whole : Polls (getD (w .coordinators) c d) (getD (w .coordinators) c d) slots places 4
       whole x next n t a b z does-so r q ys long r-stands passes q-stands replies first number =

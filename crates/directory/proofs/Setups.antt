@@ -61,13 +61,14 @@ module _ (p : Plan) (was : World) (fine : true ≡ fine? p) (fits : true ≡ fit
       let in-tables = fits-of p was fits in
       let many : ys ≡ replicate (p .coordinators) co = filled ∙ ap (λ n. replicate n co) (simp length-take (omega arith)) in
       let long : length ys ≡ p .coordinators = ap length many ∙ length-replicate (p .coordinators) co in
-      record
-      { answers = sym accepted
-      ; ready = ready p co (sizes-of p fine) is _ (was .records) (was .replies) a b d
-          (take-putMid 0 (p .coordinators) (was .coordinators) ys (p .coordinators) (omega arith) (omega arith) ∙ many)
-          (started a _ (in-tables .primaries) reset-a) (started b _ (in-tables .firsts) reset-b) (started d _ (in-tables .seconds) reset-d)
-      ; refused-unchanged = tt
-      ; rest = record { coordinators = drop-putMid 0 (p .coordinators) (was .coordinators) ys (p .coordinators) (omega arith) (omega arith) long; records = refl; replies = refl } }
+      record {
+        answers = sym accepted;
+        ready = ready p co (sizes-of p fine) is _ (was .records) (was .replies) a b d
+            (take-putMid 0 (p .coordinators) (was .coordinators) ys (p .coordinators) (omega arith) (omega arith) ∙ many)
+            (started a _ (in-tables .primaries) reset-a) (started b _ (in-tables .firsts) reset-b) (started d _ (in-tables .seconds) reset-d);
+        refused-unchanged = tt;
+        rest = record { coordinators = drop-putMid 0 (p .coordinators) (was .coordinators) ys (p .coordinators) (omega arith) (omega arith) long; records = refl; replies = refl };
+      }
 
   pub sets-up : (k : ℕ) → k ≡ p .coordinators → Done k
   sets-up k e = subst Done (sym e) done

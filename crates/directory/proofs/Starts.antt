@@ -70,17 +70,18 @@ module _ (p : Plan) (co : Coordinator) (few : Sizes p) (is : Fresh (p .first) co
       let r : reads-of (co .work) ≡ [] = ap (λ n. take n (co .work .reads)) (is .nreads) in
       let w : writes-of (co .work) ≡ [] = ap (λ n. take n (co .work .writes)) (is .nwrites) in
       let l : _≡_ {A = ℕ → Log} (logs-of p rs c (co .logs)) (λ m. empty-log) =
-          all-blank empty-log (p .machines) _ (ap (row log-of (p .capacity) (p .machines) c rs) (is .logs) ∙ empty-row log-of empty-log (p .capacity) (p .machines) c rs (few .machines .1) empty-log-of) in
+      all-blank empty-log (p .machines) _ (ap (row log-of (p .capacity) (p .machines) c rs) (is .logs) ∙ empty-row log-of empty-log (p .capacity) (p .machines) c rs (few .machines .1) empty-log-of) in
       let q : _≡_ {A = ℕ → List Reply} (queues-of p qs c (co .queues)) (λ m. []) =
-          all-blank [] (p .machines) _ (ap (row contents 4 (p .machines) c qs) (is .queues) ∙ empty-row contents [] 4 (p .machines) c qs (few .machines .1) empty-contents) in
+      all-blank [] (p .machines) _ (ap (row contents 4 (p .machines) c qs) (is .queues) ∙ empty-row contents [] 4 (p .machines) c qs (few .machines .1) empty-contents) in
       cc
 
   fresh-rings : Rings p co
-  fresh-rings = record
-    { five-logs = ap length (is .logs)
-    ; five-queues = ap length (is .queues)
-    ; logs = subst (All (λ r. ring.Sound r (p .capacity))) (sym (is .logs)) (all-replicate (λ r. ring.Sound r (p .capacity)) 5 empty-ring (record { head = omega (arith, few .capacity .0); len = omega arith; cursor = omega arith }))
-    ; queues = subst (All (λ r. ring.Sound r 4)) (sym (is .queues)) (all-replicate (λ r. ring.Sound r 4) 5 empty-ring (record { head = omega arith; len = omega arith; cursor = omega arith })) }
+  fresh-rings = record {
+    five-logs = ap length (is .logs);
+    five-queues = ap length (is .queues);
+    logs = subst (All (λ r. ring.Sound r (p .capacity))) (sym (is .logs)) (all-replicate (λ r. ring.Sound r (p .capacity)) 5 empty-ring (record { head = omega (arith, few .capacity .0); len = omega arith; cursor = omega arith }));
+    queues = subst (All (λ r. ring.Sound r 4)) (sym (is .queues)) (all-replicate (λ r. ring.Sound r 4) 5 empty-ring (record { head = omega arith; len = omega arith; cursor = omega arith }));
+  }
 
   owns-fresh : (cs : List Coordinator) (rs : List Record) (qs : List Reply) → take (p .coordinators) cs ≡ replicate (p .coordinators) co
       → owns p cs rs qs ≡ replicate (p .coordinators) (new-coordinator p)
@@ -92,9 +93,11 @@ module _ (p : Plan) (co : Coordinator) (few : Sizes p) (is : Fresh (p .first) co
       → a ≡ start-words p → b ≡ start-words p → d ≡ start-words p → Ready p (world cs rs qs a b d)
   ready cs rs qs a b d e at-a at-b at-d =
       let blank : _≡_ {A = ℕ → protocol.Coordinator} (entries (new-coordinator p) (owns p cs rs qs)) (λ c. new-coordinator p) =
-          all-blank (new-coordinator p) (p .coordinators) (owns p cs rs qs) (owns-fresh cs rs qs e) in
-      record
-      { sound = record
-        { rings = subst (All (Rings p)) (sym e) (all-replicate (Rings p) (p .coordinators) co fresh-rings)
-        ; invariant = λ c. subst (λ (f : ℕ → protocol.Coordinator). Invariant p (f c)) (sym blank) (new-invariant p) }
-      ; starts = cc }
+      all-blank (new-coordinator p) (p .coordinators) (owns p cs rs qs) (owns-fresh cs rs qs e) in
+      record {
+        sound = record {
+          rings = subst (All (Rings p)) (sym e) (all-replicate (Rings p) (p .coordinators) co fresh-rings);
+          invariant = λ c. subst (λ (f : ℕ → protocol.Coordinator). Invariant p (f c)) (sym blank) (new-invariant p);
+        };
+        starts = cc;
+      }

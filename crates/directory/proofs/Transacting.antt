@@ -45,20 +45,20 @@ use Rattle.directory.proofs.Working.{is-idle, not-idle, is-open, not-open, as-
 look-some : (ws : Words) (a v h x : ℕ) → Some (v, h, x) ≡ look-at ws a → line a v x ≡ seen ws a
 look-some ws a v h x e = go (there ws a) e
   where
-  go : (b : Bool) → _≡_ {A = Option (ℕ × ℕ × ℕ)} (Some (v, h, x)) (cond b (Some (at ws a .version, at ws a .holder, at ws a .value)) None) → line a v x ≡ seen ws a
-  go true q =
-      let same : _≡_ {A = ℕ × ℕ × ℕ} (v, h, x) (at ws a .version, at ws a .holder, at ws a .value) = cc in
-      let r : v ≡ at ws a .version = ap (λ (t : ℕ × ℕ × ℕ). t .0) same in
-      let s : x ≡ at ws a .value = ap (λ (t : ℕ × ℕ × ℕ). t .2) same in
-      cc
-  go false q = let z : _≡_ {A = ℕ} 0 1 = cc in absurd (omega arith)
+    go : (b : Bool) → _≡_ {A = Option (ℕ × ℕ × ℕ)} (Some (v, h, x)) (cond b (Some (at ws a .version, at ws a .holder, at ws a .value)) None) → line a v x ≡ seen ws a
+    go true q =
+        let same : _≡_ {A = ℕ × ℕ × ℕ} (v, h, x) (at ws a .version, at ws a .holder, at ws a .value) = cc in
+        let r : v ≡ at ws a .version = ap (λ (t : ℕ × ℕ × ℕ). t .0) same in
+        let s : x ≡ at ws a .value = ap (λ (t : ℕ × ℕ × ℕ). t .2) same in
+        cc
+    go false q = let z : _≡_ {A = ℕ} 0 1 = cc in absurd (omega arith)
 
 look-none : (ws : Words) (a : ℕ) → None ≡ look-at ws a → a < length ws → ⊥
 look-none ws a e l = go (there ws a) (lt-ltb a (length ws) l) e
   where
-  go : (b : Bool) → b ≡ true → _≡_ {A = Option (ℕ × ℕ × ℕ)} None (cond b (Some (at ws a .version, at ws a .holder, at ws a .value)) None) → ⊥
-  go true t q = let z : _≡_ {A = ℕ} 0 1 = cc in omega arith
-  go false t q = let z : _≡_ {A = ℕ} 0 1 = cc in omega arith
+    go : (b : Bool) → b ≡ true → _≡_ {A = Option (ℕ × ℕ × ℕ)} None (cond b (Some (at ws a .version, at ws a .holder, at ws a .value)) None) → ⊥
+    go true t q = let z : _≡_ {A = ℕ} 0 1 = cc in omega arith
+    go false t q = let z : _≡_ {A = ℕ} 0 1 = cc in omega arith
 
 -- the entry as it was first read, with default e, and as it is changed, with default d
 module _ (p : Plan) (w : World) (c : ℕ) (in′ : Inside p w c) (e : Coordinator) where
@@ -96,7 +96,7 @@ module _ (p : Plan) (w : World) (c : ℕ) (in′ : Inside p w c) (e : Coordinato
       unfolding own
       reads-again r v found value = only-answers p w (Read c a) in′ e (answered (r .version) v Going)
           (λ s. protocol-calls.reads-again p _ c a (is-open p (first .work) _ is) within r (sym found)
-            ∙ ap (λ (n : ℕ). Ok (record { answer = answered (r .version) n Going; after = here p w (Read c a) in′ e })) (sym value))
+          ∙ ap (λ (n : ℕ). Ok (record { answer = answered (r .version) n Going; after = here p w (Read c a) in′ e })) (sym value))
 
       module _ (new : None ≡ line-at a (reads-of (first .work))) where
         -- the memory has the plan's words, so a look below its size finds one
@@ -163,12 +163,12 @@ module _ (p : Plan) (w : World) (c : ℕ) (in′ : Inside p w c) (e : Coordinato
       reads-new new few v h x looked l =
           work-changes p w (Read c a) in′ words d t protocol.Opened _ _ _ v x Going (λ s. leaves-stand p t _ _ _ _ _ l stays-open)
           (λ s.
-            let few′ : then .work .nreads < 8 = subst (λ (z : Coordinator). z .work .nreads < 8) same few in
-            protocol-calls.reads-new p _ c a (is-open p (then .work) _ is-then) within (reads-then None new) (omega (arith, few′, count-reads (then .work)))
-            ∙ ap (λ (r : Line). Ok (record { answer = answered (r .version) (r .value) Going; after = own-left p w (Read c a) in′ words d (phase-of p (then .work) (then .work .phase)) (next-of (then .work .next)) (snoc (reads-of (then .work)) r) (writes-of (then .work)) }))
-              (sym (look-some (w .primaries) a v h x looked))
-            ∙ ap (λ (ph : protocol.Phase). Ok (record { answer = answered v x Going; after = own-left p w (Read c a) in′ words d ph (next-of (then .work .next)) (snoc (reads-of (then .work)) (line a v x)) (writes-of (then .work)) }))
-              (ap (phase-of p (then .work)) is-then ∙ as-open p (then .work)))
+          let few′ : then .work .nreads < 8 = subst (λ (z : Coordinator). z .work .nreads < 8) same few in
+          protocol-calls.reads-new p _ c a (is-open p (then .work) _ is-then) within (reads-then None new) (omega (arith, few′, count-reads (then .work)))
+          ∙ ap (λ (r : Line). Ok (record { answer = answered (r .version) (r .value) Going; after = own-left p w (Read c a) in′ words d (phase-of p (then .work) (then .work .phase)) (next-of (then .work .next)) (snoc (reads-of (then .work)) r) (writes-of (then .work)) }))
+          (sym (look-some (w .primaries) a v h x looked))
+          ∙ ap (λ (ph : protocol.Phase). Ok (record { answer = answered v x Going; after = own-left p w (Read c a) in′ words d ph (next-of (then .work .next)) (snoc (reads-of (then .work)) (line a v x)) (writes-of (then .work)) }))
+          (ap (phase-of p (then .work)) is-then ∙ as-open p (then .work)))
 
       module _ (v : ℕ) (r : Line) (found : Some r ≡ line-at a (reads-of (first .work))) (next : r .version ≡ 2 ^ 60 - 1 → ⊥) where
         -- the words written are ws, and the coordinator is still open
@@ -178,8 +178,8 @@ module _ (p : Plan) (w : World) (c : ℕ) (in′ : Inside p w c) (e : Coordinato
         writes-left ws l accepted =
             work-changes p w (Write c a v) in′ words d t protocol.Opened _ _ _ 0 0 Going (λ s. leaves-stand p t _ _ _ _ _ l stays-open)
             (λ s. accepted
-              ∙ ap (λ (ph : protocol.Phase). Ok (record { answer = answered 0 0 Going; after = own-left p w (Write c a v) in′ words d ph (next-of (then .work .next)) (reads-of (then .work)) ws }))
-                (ap (phase-of p (then .work)) is-then ∙ as-open p (then .work)))
+            ∙ ap (λ (ph : protocol.Phase). Ok (record { answer = answered 0 0 Going; after = own-left p w (Write c a v) in′ words d ph (next-of (then .work .next)) (reads-of (then .work)) ws }))
+            (ap (phase-of p (then .work)) is-then ∙ as-open p (then .work)))
 
         pub writes-again : (o : Line) → Some o ≡ line-at a (writes-of (first .work))
             → Leaves t (then .work .phase) (then .work .next) (reads-of (then .work)) (rewrite (writes-of (then .work)) (r .address) v)

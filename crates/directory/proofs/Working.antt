@@ -90,14 +90,14 @@ module _ (p : Plan) (w : World) (call : Call) (in′ : Inside p w (coordinator-o
       (record { answer = answered a b o; after = own-left ph n rs ws })
       accepted
       (λ s.
-        let e = stands s .phase in
-        let f = stands s .next in
-        let g = stands s .reads in
-        let h = stands s .writes in
-        cc)
+      let e = stands s .phase in
+      let f = stands s .next in
+      let g = stands s .reads in
+      let h = stands s .writes in
+      cc)
       (λ s.
-        let r = rings-of p w call in′ d s in
-        record { five-logs = r .five-logs; five-queues = r .five-queues; logs = r .logs; queues = r .queues })
+      let r = rings-of p w call in′ d s in
+      record { five-logs = r .five-logs; five-queues = r .five-queues; logs = r .logs; queues = r .queues })
       (record { coordinators = drop-set-lt _ _ _ _ (ltb-true c (p .coordinators) (sym (in′ .below))); records = refl; replies = refl })
 
 -- how many lines count

@@ -81,13 +81,14 @@ queues-of p qs c rings m = getD (row contents 4 (p .machines) c qs rings) m []
 
 -- coordinator c, its logs and queues in the tables of records and replies
 unfoldable pub own : Plan → List Record → List Reply → ℕ → Coordinator → protocol.Coordinator
-own p rs qs c co = record
-  { phase = phase-of p (co .work) (co .work .phase)
-  ; next = next-of (co .work .next)
-  ; reads = reads-of (co .work)
-  ; writes = writes-of (co .work)
-  ; logs = logs-of p rs c (co .logs)
-  ; queues = queues-of p qs c (co .queues) }
+own p rs qs c co = record {
+  phase = phase-of p (co .work) (co .work .phase);
+  next = next-of (co .work .next);
+  reads = reads-of (co .work);
+  writes = writes-of (co .work);
+  logs = logs-of p rs c (co .logs);
+  queues = queues-of p qs c (co .queues);
+}
 
 unfoldable pub owns : Plan → List Coordinator → List Record → List Reply → List protocol.Coordinator
 owns p cs rs qs = mapi (own p rs qs) 0 (take (p .coordinators) cs)

@@ -10,8 +10,10 @@ ghost use Rattle.directory.specs.Checks.{admitted};
 use crate::tables::Coordinator;
 use memory::interface::Memory;
 use protocol::call::Refusal;
-use protocol::plan::{Home, Plan};
-use protocol::record::{Record, Reply};
+use protocol::plan::Home;
+use protocol::plan::Plan;
+use protocol::record::Record;
+use protocol::record::Reply;
 
 // Three different machines of those there are.
 fn home_ok(home: &Home, machines: u8) -> bool
@@ -100,7 +102,15 @@ pub fn admit<P: Memory, F: Memory, S: Memory>(
     let true = plan_ok(plan) else {
         return Err(Refusal::BadPlan);
     };
-    let true = tables_ok(plan, coordinators, records, replies, primaries, firsts, seconds) else {
+    let true = tables_ok(
+        plan,
+        coordinators,
+        records,
+        replies,
+        primaries,
+        firsts,
+        seconds,
+    ) else {
         return Err(Refusal::BadTables);
     };
     let true = c < plan.coordinators else {

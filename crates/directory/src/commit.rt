@@ -14,12 +14,20 @@ ghost use Rattle.directory.specs.Commits.{phase-by, outcome-by, roomy-at};
 ghost use Rattle.directory.specs.Work.{Stands-for};
 ghost use Rattle.directory.specs.Calls.{Does};
 use crate::checks::admit;
-use crate::tables::{Coordinator, Phase, Work};
-use handling::room::{at_primary, has_place, to_write};
+use crate::tables::Coordinator;
+use crate::tables::Phase;
+use crate::tables::Work;
+use handling::room::at_primary;
+use handling::room::has_place;
+use handling::room::to_write;
 use memory::interface::Memory;
-use protocol::call::{Answer, Outcome, Refusal};
+use protocol::call::Answer;
+use protocol::call::Outcome;
+use protocol::call::Refusal;
 use protocol::plan::Plan;
-use protocol::record::{Line, Record, Reply};
+use protocol::record::Line;
+use protocol::record::Record;
+use protocol::record::Reply;
 
 fn first_phase(nreads: u8, nwrites: u8) -> Phase
     ensures { λ r. ⌜ r ≡ phase-by nreads nwrites ⌝ }
@@ -27,13 +35,21 @@ fn first_phase(nreads: u8, nwrites: u8) -> Phase
     if nwrites != 0 {
         return Phase::Locking;
     }
-    if nreads == 0 { Phase::Idle } else { Phase::Checking }
+    if nreads == 0 {
+        Phase::Idle
+    } else {
+        Phase::Checking
+    }
 }
 
 fn first_outcome(nreads: u8, nwrites: u8) -> Outcome
     ensures { λ r. ⌜ r ≡ outcome-by nreads nwrites ⌝ }
 {
-    if nreads == 0 && nwrites == 0 { Outcome::Committed } else { Outcome::Going }
+    if nreads == 0 && nwrites == 0 {
+        Outcome::Committed
+    } else {
+        Outcome::Going
+    }
 }
 
 // The number after this one, if there is one.
@@ -91,7 +107,12 @@ fn has_room(plan: &Plan, c: u8, own: &Coordinator, records: &[Record]) -> bool
         let j = m as usize;
         let block = c as usize * plan.machines as usize + j;
         let n = to_write(plan, &own.work.writes[0..count], m);
-        if !has_place(&own.logs[j], &records[block * places..block * places + places], n, places) {
+        if !has_place(
+            &own.logs[j],
+            &records[block * places..block * places + places],
+            n,
+            places,
+        ) {
             return false;
         }
     }
@@ -114,7 +135,16 @@ pub fn commit<P: Memory, F: Memory, S: Memory>(
         let after = world (now (coordinators .exit)) (now (records .entry)) (now (replies .entry)) (P·Memory .words (now (primaries .entry))) (F·Memory .words (now (firsts .entry))) (S·Memory .words (now (seconds .entry))) in
         ⌜ Does (now (plan .entry)) was after r (Commit c) ⌝ }
 {
-    admit(plan, coordinators, records, replies, primaries, firsts, seconds, c)?;
+    admit(
+        plan,
+        coordinators,
+        records,
+        replies,
+        primaries,
+        firsts,
+        seconds,
+        c,
+    )?;
     let own = &coordinators[c as usize];
     let Phase::Open = own.work.phase else {
         return Err(Refusal::WrongPhase);
@@ -129,5 +159,9 @@ pub fn commit<P: Memory, F: Memory, S: Memory>(
     let outcome = first_outcome(own.work.nreads, own.work.nwrites);
     let own = &mut coordinators[c as usize];
     own.work.begin_commit(plan, next);
-    Ok(Answer { first: number, second: 0, outcome })
+    Ok(Answer {
+        first: number,
+        second: 0,
+        outcome,
+    })
 }

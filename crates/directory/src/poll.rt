@@ -17,9 +17,13 @@ use crate::tables::Coordinator;
 use handling::handle::handle;
 use handling::logs::next_record;
 use memory::interface::Memory;
-use protocol::call::{Answer, Outcome, Refusal};
+use protocol::call::Answer;
+use protocol::call::Outcome;
+use protocol::call::Refusal;
 use protocol::plan::Plan;
-use protocol::record::{Kind, Record, Reply};
+use protocol::record::Kind;
+use protocol::record::Record;
+use protocol::record::Reply;
 use ring::Ring;
 
 pub fn kind_number(kind: Kind) -> u64
@@ -58,7 +62,13 @@ fn answer_lock(queue: &mut Ring, slots: &mut [Reply], number: u64, granted: bool
 {
     match kind {
         Kind::Lock => {
-            let _ = queue.append(slots, Reply { number, yes: granted });
+            let _ = queue.append(
+                slots,
+                Reply {
+                    number,
+                    yes: granted,
+                },
+            );
         }
         _ => {}
     }
@@ -81,7 +91,16 @@ pub fn poll<P: Memory, F: Memory, S: Memory>(
         let after = world (now (coordinators .exit)) (now (records .entry)) (now (replies .exit)) (P·Memory .words (now (primaries .exit))) (F·Memory .words (now (firsts .exit))) (S·Memory .words (now (seconds .exit))) in
         ⌜ Does (now (plan .entry)) was after r (Poll c m) ⌝ }
 {
-    admit(plan, coordinators, records, replies, primaries, firsts, seconds, c)?;
+    admit(
+        plan,
+        coordinators,
+        records,
+        replies,
+        primaries,
+        firsts,
+        seconds,
+        c,
+    )?;
     let true = m < plan.machines else {
         return Err(Refusal::NoMachine);
     };
@@ -97,6 +116,16 @@ pub fn poll<P: Memory, F: Memory, S: Memory>(
     let done = handle(plan, c, m, &log, slots, &found, primaries, firsts, seconds);
     let own = &mut coordinators[c as usize];
     pass_log(&mut own.logs[j], slots, found.kind);
-    answer_lock(&mut own.queues[j], &mut replies[block * 4..block * 4 + 4], found.number, done.granted, found.kind);
-    Ok(Answer { first: kind_number(found.kind), second: done.count, outcome: Outcome::Going })
+    answer_lock(
+        &mut own.queues[j],
+        &mut replies[block * 4..block * 4 + 4],
+        found.number,
+        done.granted,
+        found.kind,
+    );
+    Ok(Answer {
+        first: kind_number(found.kind),
+        second: done.count,
+        outcome: Outcome::Going,
+    })
 }

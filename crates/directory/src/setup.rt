@@ -6,20 +6,33 @@ ghost use Rattle.memory.specs.Words.{word};
 ghost use Rattle.directory.specs.View.{world};
 ghost use Rattle.directory.specs.Fresh.{Fresh};
 ghost use Rattle.directory.specs.Calls.{Sets-up};
-use crate::checks::{plan_ok, tables_ok};
-use crate::tables::{Coordinator, Phase, Work};
+use crate::checks::plan_ok;
+use crate::checks::tables_ok;
+use crate::tables::Coordinator;
+use crate::tables::Phase;
+use crate::tables::Work;
 use memory::interface::Memory;
 use protocol::call::Refusal;
 use protocol::plan::Plan;
-use protocol::record::{Line, Record, Reply};
+use protocol::record::Line;
+use protocol::record::Record;
+use protocol::record::Reply;
 use ring::Ring;
 
 // An idle coordinator with empty rings.
 pub fn fresh(first: u64) -> Coordinator
     ensures { λ r. ⌜ Fresh first r ⌝ }
 {
-    let line = Line { address: 0, version: 0, value: 0 };
-    let ring = Ring { head: 0, len: 0, cursor: 0 };
+    let line = Line {
+        address: 0,
+        version: 0,
+        value: 0,
+    };
+    let ring = Ring {
+        head: 0,
+        len: 0,
+        cursor: 0,
+    };
     let work = Work {
         phase: Phase::Idle,
         next: Some(first),
@@ -33,7 +46,11 @@ pub fn fresh(first: u64) -> Coordinator
         nwrites: 0,
         writes: [line; 4],
     };
-    Coordinator { work, logs: [ring; 5], queues: [ring; 5] }
+    Coordinator {
+        work,
+        logs: [ring; 5],
+        queues: [ring; 5],
+    }
 }
 
 fn fill(coordinators: &mut [Coordinator], value: Coordinator)
@@ -72,7 +89,15 @@ pub fn set_up<P: Memory, F: Memory, S: Memory>(
     let true = plan_ok(plan) else {
         return Err(Refusal::BadPlan);
     };
-    let true = tables_ok(plan, coordinators, records, replies, primaries, firsts, seconds) else {
+    let true = tables_ok(
+        plan,
+        coordinators,
+        records,
+        replies,
+        primaries,
+        firsts,
+        seconds,
+    ) else {
         return Err(Refusal::BadTables);
     };
     reset(primaries, plan.start);

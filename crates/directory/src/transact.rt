@@ -3,11 +3,16 @@ ghost use Rattle.protocol.specs.declared.call.Call.the-variants.{Open, Read, Wr
 ghost use Rattle.directory.specs.View.{world};
 ghost use Rattle.directory.specs.Calls.{Does};
 use crate::checks::admit;
-use crate::tables::{Coordinator, Phase};
+use crate::tables::Coordinator;
+use crate::tables::Phase;
 use memory::interface::Memory;
-use protocol::call::{Answer, Outcome, Refusal};
+use protocol::call::Answer;
+use protocol::call::Outcome;
+use protocol::call::Refusal;
 use protocol::plan::Plan;
-use protocol::record::{Line, Record, Reply};
+use protocol::record::Line;
+use protocol::record::Record;
+use protocol::record::Reply;
 
 // A word at this version can be read, and not written.
 const LAST_VERSION: u64 = (1 << 60) - 1;
@@ -28,14 +33,27 @@ pub fn open<P: Memory, F: Memory, S: Memory>(
         let after = world (now (coordinators .exit)) (now (records .entry)) (now (replies .entry)) (P·Memory .words (now (primaries .entry))) (F·Memory .words (now (firsts .entry))) (S·Memory .words (now (seconds .entry))) in
         ⌜ Does (now (plan .entry)) was after r (Open c) ⌝ }
 {
-    admit(plan, coordinators, records, replies, primaries, firsts, seconds, c)?;
+    admit(
+        plan,
+        coordinators,
+        records,
+        replies,
+        primaries,
+        firsts,
+        seconds,
+        c,
+    )?;
     let own = &coordinators[c as usize];
     let Phase::Idle = own.work.phase else {
         return Err(Refusal::WrongPhase);
     };
     let own = &mut coordinators[c as usize];
     own.work.begin();
-    Ok(Answer { first: 0, second: 0, outcome: Outcome::Going })
+    Ok(Answer {
+        first: 0,
+        second: 0,
+        outcome: Outcome::Going,
+    })
 }
 
 // Answers version and value of a word: as recorded where it was read before, with the value last written, else as the primary memory has it.
@@ -55,7 +73,16 @@ pub fn read<P: Memory, F: Memory, S: Memory>(
         let after = world (now (coordinators .exit)) (now (records .entry)) (now (replies .entry)) (P·Memory .words (now (primaries .entry))) (F·Memory .words (now (firsts .entry))) (S·Memory .words (now (seconds .entry))) in
         ⌜ Does (now (plan .entry)) was after r (Read c address) ⌝ }
 {
-    admit(plan, coordinators, records, replies, primaries, firsts, seconds, c)?;
+    admit(
+        plan,
+        coordinators,
+        records,
+        replies,
+        primaries,
+        firsts,
+        seconds,
+        c,
+    )?;
     let own = &coordinators[c as usize];
     let Phase::Open = own.work.phase else {
         return Err(Refusal::WrongPhase);
@@ -65,7 +92,11 @@ pub fn read<P: Memory, F: Memory, S: Memory>(
     };
     if let Some(line) = own.work.read_at(address) {
         let value = own.work.value_of(line, address);
-        return Ok(Answer { first: line.version, second: value, outcome: Outcome::Going });
+        return Ok(Answer {
+            first: line.version,
+            second: value,
+            outcome: Outcome::Going,
+        });
     }
     let true = own.work.nreads < 8 else {
         return Err(Refusal::TooMany);
@@ -74,8 +105,16 @@ pub fn read<P: Memory, F: Memory, S: Memory>(
         return Err(Refusal::NoAddress);
     };
     let own = &mut coordinators[c as usize];
-    own.work.note_read(Line { address, version, value });
-    Ok(Answer { first: version, second: value, outcome: Outcome::Going })
+    own.work.note_read(Line {
+        address,
+        version,
+        value,
+    });
+    Ok(Answer {
+        first: version,
+        second: value,
+        outcome: Outcome::Going,
+    })
 }
 
 // Buffers a value for a word that was read.
@@ -96,7 +135,16 @@ pub fn write<P: Memory, F: Memory, S: Memory>(
         let after = world (now (coordinators .exit)) (now (records .entry)) (now (replies .entry)) (P·Memory .words (now (primaries .entry))) (F·Memory .words (now (firsts .entry))) (S·Memory .words (now (seconds .entry))) in
         ⌜ Does (now (plan .entry)) was after r (Write c address value) ⌝ }
 {
-    admit(plan, coordinators, records, replies, primaries, firsts, seconds, c)?;
+    admit(
+        plan,
+        coordinators,
+        records,
+        replies,
+        primaries,
+        firsts,
+        seconds,
+        c,
+    )?;
     let own = &coordinators[c as usize];
     let Phase::Open = own.work.phase else {
         return Err(Refusal::WrongPhase);
@@ -113,14 +161,26 @@ pub fn write<P: Memory, F: Memory, S: Memory>(
     if let Some(_) = own.work.write_at(address) {
         let own = &mut coordinators[c as usize];
         own.work.note_again(line.address, value);
-        return Ok(Answer { first: 0, second: 0, outcome: Outcome::Going });
+        return Ok(Answer {
+            first: 0,
+            second: 0,
+            outcome: Outcome::Going,
+        });
     }
     let true = own.work.nwrites < 4 else {
         return Err(Refusal::TooMany);
     };
     let own = &mut coordinators[c as usize];
-    own.work.note_write(Line { address: line.address, version: line.version, value });
-    Ok(Answer { first: 0, second: 0, outcome: Outcome::Going })
+    own.work.note_write(Line {
+        address: line.address,
+        version: line.version,
+        value,
+    });
+    Ok(Answer {
+        first: 0,
+        second: 0,
+        outcome: Outcome::Going,
+    })
 }
 
 // Gives the transaction up: an abort is reported, and the coordinator is idle.
@@ -139,12 +199,25 @@ pub fn abandon<P: Memory, F: Memory, S: Memory>(
         let after = world (now (coordinators .exit)) (now (records .entry)) (now (replies .entry)) (P·Memory .words (now (primaries .entry))) (F·Memory .words (now (firsts .entry))) (S·Memory .words (now (seconds .entry))) in
         ⌜ Does (now (plan .entry)) was after r (Abandon c) ⌝ }
 {
-    admit(plan, coordinators, records, replies, primaries, firsts, seconds, c)?;
+    admit(
+        plan,
+        coordinators,
+        records,
+        replies,
+        primaries,
+        firsts,
+        seconds,
+        c,
+    )?;
     let own = &coordinators[c as usize];
     let Phase::Open = own.work.phase else {
         return Err(Refusal::WrongPhase);
     };
     let own = &mut coordinators[c as usize];
     own.work.rest();
-    Ok(Answer { first: 0, second: 0, outcome: Outcome::Aborted })
+    Ok(Answer {
+        first: 0,
+        second: 0,
+        outcome: Outcome::Aborted,
+    })
 }

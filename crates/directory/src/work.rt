@@ -8,7 +8,8 @@ ghost use Rattle.protocol.specs.Transact.{revalued, rewrite, value-of};
 ghost use Rattle.directory.specs.declared.tables.Phase.the-variants.{Idle, Open};
 ghost use Rattle.directory.specs.View.{reads-of, writes-of};
 ghost use Rattle.directory.specs.Work.{Leaves};
-use crate::tables::{Phase, Work};
+use crate::tables::Phase;
+use crate::tables::Work;
 use protocol::record::Line;
 
 // The first line with that address.
@@ -27,7 +28,15 @@ fn find(lines: &[Line], address: u16) -> Option<Line>
 fn revalue(line: Line, address: u16, value: u64) -> Line
     ensures { λ r. ⌜ r ≡ revalued address value line ⌝ }
 {
-    if line.address == address { Line { address, version: line.version, value } } else { line }
+    if line.address == address {
+        Line {
+            address,
+            version: line.version,
+            value,
+        }
+    } else {
+        line
+    }
 }
 
 fn revalue_all(lines: &mut [Line], address: u16, value: u64)

@@ -36,9 +36,9 @@ module _ {X : Type 0} (P : X → Type 0) where
   all-found test [] x h e = let z : _≡_ {A = ℕ} 0 1 = cc in absurd (omega arith)
   all-found test (y ∷ xs) x h e = go (test y) (λ q. all-found test xs x (h .1) q) e
     where
-    go : (b : Bool) → (find test xs ≡ Some x → P x) → cond b (Some y) (find test xs) ≡ Some x → P x
-    go true later q = let same : y ≡ x = cc in subst P same (h .0)
-    go false later q = later q
+      go : (b : Bool) → (find test xs ≡ Some x → P x) → cond b (Some y) (find test xs) ≡ Some x → P x
+      go true later q = let same : y ≡ x = cc in subst P same (h .0)
+      go false later q = later q
 
 -- the lines of the LOCK that was found
 module _ (p : Plan) (log : Ring) (slots : List Record) (number : ℕ) (x : Record) (good : Sound-log p log slots) (found : Some (note x) ≡ find (locks? number) (polled log slots)) where
@@ -86,9 +86,9 @@ module _ (p : Plan) (x : Record) (k : ℕ) (is : k ≡ x .count) (ws ws′ : Wor
         let left : ws′ ≡ cond granted (lock-lines ws (suc c) all) ws = after ∙ ap (λ (n : ℕ). cond granted (lock-lines ws n part) ws) same ∙ ap (λ (zs : List Line). cond granted (lock-lines ws (suc c) zs) ws) part-is in
         ap (λ (vs : Words). effect (cond granted (x .count) 0) granted vs [] []) left ∙ by-cases granted ∙ ap (λ (b : Bool). cond b (effect (length all) true (lock-lines ws (suc c) all) [] []) (effect 0 false ws [] [])) yes-or-no
       where
-      by-cases : (b : Bool) → effect (cond b (x .count) 0) b (cond b (lock-lines ws (suc c) all) ws) [] [] ≡ cond b (effect (length all) true (lock-lines ws (suc c) all) [] []) (effect 0 false ws [] [])
-      by-cases true = ap (λ (n : ℕ). effect n true (lock-lines ws (suc c) all) [] []) (sym long-all)
-      by-cases false = refl
+        by-cases : (b : Bool) → effect (cond b (x .count) 0) b (cond b (lock-lines ws (suc c) all) ws) [] [] ≡ cond b (effect (length all) true (lock-lines ws (suc c) all) [] []) (effect 0 false ws [] [])
+        by-cases true = ap (λ (n : ℕ). effect n true (lock-lines ws (suc c) all) [] []) (sym long-all)
+        by-cases false = refl
 
   module _ (r : ℕ) (ls : List Line) (lines : ls ≡ all) where
     pub installed : (All (Fit (length ws)) part → (ws′ ≡ install-lines ws part) × (r ≡ length part)) → Lines p all → length ws ≡ size p → (ws′ ≡ install-lines ws ls) × (r ≡ length ls)

@@ -29,9 +29,9 @@ use Rattle.handling.proofs.Newest.{turned-more}
 length-renew : (ws : Words) (l : Line) → length (renew ws l) ≡ length ws
 length-renew ws l = go (newer? ws l)
   where
-  go : (b : Bool) → length (cond b (put ws (l .address) (l .version + 1) (l .value)) ws) ≡ length ws
-  go true = length-set ws (l .address) _
-  go false = refl
+    go : (b : Bool) → length (cond b (put ws (l .address) (l .version + 1) (l .value)) ws) ≡ length ws
+    go true = length-set ws (l .address) _
+    go false = refl
 
 abbrev Sizes : Backups → Backups → Type 0
 Sizes b b′ = (length (b′ .firsts) ≡ length (b .firsts)) × (length (b′ .seconds) ≡ length (b .seconds))
@@ -63,13 +63,14 @@ module _ (p : Plan) (m : ℕ) (x : Record) (k : ℕ) (is : k ≡ x .count) (kind
       → (All (Fit (length f)) part → length s ≡ length f → (n : ℕ) → backups (n + r) f′ s′ ≡ back-up-lines p m part (backups n f s)) → Backs-up p m (note x) f s f′ s′ r
   backs-up-lines few ls did fits =
       let sizes = size-lines p m ls (backups 0 f s) in
-      record
-      { few = omega (arith, few, length-take k (x .lines), x .few, is)
-      ; firsts = ap (λ (b : Backups). length (b .firsts)) (did 0) ∙ sizes .0
-      ; seconds = ap (λ (b : Backups). length (b .seconds)) (did 0) ∙ sizes .1
-      ; after = λ good long long′ n.
-          fits (subst (λ (j : ℕ). All (Fit j) part) (sym long) (subst (All (Fit (size p))) (sym part-is) (good .fit))) (long′ ∙ sym long) n
-          ∙ ap (λ (zs : List Line). back-up-lines p m zs (backups n f s)) (part-is ∙ sym (backup-lines-of x kind)) }
+      record {
+        few = omega (arith, few, length-take k (x .lines), x .few, is);
+        firsts = ap (λ (b : Backups). length (b .firsts)) (did 0) ∙ sizes .0;
+        seconds = ap (λ (b : Backups). length (b .seconds)) (did 0) ∙ sizes .1;
+        after = λ good long long′ n.
+            fits (subst (λ (j : ℕ). All (Fit j) part) (sym long) (subst (All (Fit (size p))) (sym part-is) (good .fit))) (long′ ∙ sym long) n
+            ∙ ap (λ (zs : List Line). back-up-lines p m zs (backups n f s)) (part-is ∙ sym (backup-lines-of x kind));
+      }
 
 no-lines : (x : Record) (k : Kind) → x .kind ≡ k → (x .kind ≡ CommitBackup → ⊥) → backup-part (note x) ≡ []
 no-lines x Lock e n = ap (λ (z : Kind). cond (is? z CommitBackup) (take (x .count) (x .lines)) []) e
@@ -80,13 +81,14 @@ no-lines x Truncate e n = ap (λ (z : Kind). cond (is? z CommitBackup) (take (x 
 
 -- any other record puts nothing
 pub backs-up-none : (p : Plan) (m : ℕ) (x : Record) (f s : Words) → (x .kind ≡ CommitBackup → ⊥) → Backs-up p m (note x) f s f s 0
-backs-up-none p m x f s n = record
-  { few = omega arith
-  ; firsts = refl
-  ; seconds = refl
-  ; after = λ _ _ _ i.
+backs-up-none p m x f s n = record {
+  few = omega arith;
+  firsts = refl;
+  seconds = refl;
+  after = λ _ _ _ i.
       ap (λ (j : ℕ). backups j f s) (omega arith)
-      ∙ ap (λ (zs : List Line). back-up-lines p m zs (backups i f s)) (sym (no-lines x (x .kind) refl n)) }
+      ∙ ap (λ (zs : List Line). back-up-lines p m zs (backups i f s)) (sym (no-lines x (x .kind) refl n));
+}
 
 -- the record at place i, and those of the loop so far
 first-of : {X : Type 0} (P : X → Type 0) (xs : List X) (x : X) (rest : List X) → xs ≡ x ∷ rest → All P xs → P x
@@ -102,14 +104,15 @@ module _ (p : Plan) (m i : ℕ) (log : Ring) (slots : List Record) (f s : Words)
 
   pub backed-more : (x : Record) (puts r : ℕ) (a b a′ b′ : Words) → Next-is (notes log slots) i (Some x) → Good
       → Backed-up p m i (notes log slots) f s a b puts → Backs-up p m (note x) a b a′ b′ r → Backed-up p m (i + 1) (notes log slots) f s a′ b′ (puts + r)
-  backed-more x puts r a b a′ b′ here good before did = record
-    { few = omega (arith, before .few, did .few)
-    ; firsts = did .firsts ∙ before .firsts
-    ; seconds = did .seconds ∙ before .seconds
-    ; after =
+  backed-more x puts r a b a′ b′ here good before did = record {
+    few = omega (arith, before .few, did .few);
+    firsts = did .firsts ∙ before .firsts;
+    seconds = did .seconds ∙ before .seconds;
+    after =
         did .after (lines-at p (notes log slots) i x here (good .0 .lines)) (before .firsts ∙ good .1) (before .seconds ∙ good .2) puts
         ∙ ap (back-up-lines p m (backup-part (note x))) (before .after)
-        ∙ ap (λ (rs : List Note). back-up-records p m rs (backups 0 f s)) (sym (turned-more (notes log slots) i (note x) _ here)) }
+        ∙ ap (λ (rs : List Note). back-up-records p m rs (backups 0 f s)) (sym (turned-more (notes log slots) i (note x) _ here));
+  }
 
 pub backed-none : (p : Plan) (m : ℕ) (ns : List Note) (f s : Words) → Backed-up p m 0 ns f s f s 0
 backed-none p m ns f s = record { few = omega arith; firsts = refl; seconds = refl; after = refl }

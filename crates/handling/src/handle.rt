@@ -11,11 +11,16 @@ ghost use Rattle.protocol.specs.Poll.{locked-lines, back-up-records};
 ghost use Rattle.protocol.specs.Kept.{Lines};
 ghost use Rattle.handling.specs.Notes.{notes, polled};
 ghost use Rattle.handling.specs.Handling.{effect, handled, Handles-lock, Backs-up, Sound-log, Ready};
-use crate::lines::{back_up_lines, free_lines, install_lines, lock_lines};
-use crate::logs::{find_lock, record_at};
+use crate::lines::back_up_lines;
+use crate::lines::free_lines;
+use crate::lines::install_lines;
+use crate::lines::lock_lines;
+use crate::logs::find_lock;
+use crate::logs::record_at;
 use memory::interface::Memory;
 use protocol::plan::Plan;
-use protocol::record::{Kind, Record};
+use protocol::record::Kind;
+use protocol::record::Record;
 use ring::Ring;
 
 // How many lines were locked, put or freed, and whether a LOCK was granted.
@@ -26,7 +31,13 @@ pub struct Done {
 }
 
 // Puts the lines of a COMMIT-BACKUP into the backups of machine m, and counts the puts.
-fn back_up_record<F: Memory, S: Memory>(plan: &Plan, m: u8, entry: &Record, firsts: &mut F, seconds: &mut S) -> usize
+fn back_up_record<F: Memory, S: Memory>(
+    plan: &Plan,
+    m: u8,
+    entry: &Record,
+    firsts: &mut F,
+    seconds: &mut S,
+) -> usize
     ensures { λ r. ⌜ Backs-up (now (plan .entry)) m (note (now (entry .entry))) (F·Memory .words (now (firsts .entry))) (S·Memory .words (now (seconds .entry))) (F·Memory .words (now (firsts .exit))) (S·Memory .words (now (seconds .exit))) r ⌝ }
 {
     match entry.kind {
@@ -40,7 +51,14 @@ fn back_up_record<F: Memory, S: Memory>(plan: &Plan, m: u8, entry: &Record, firs
 }
 
 // A TRUNCATE: the lines of every polled COMMIT-BACKUP, in log order, go into the backups of machine m; counts the puts.
-pub fn truncate<F: Memory, S: Memory>(plan: &Plan, m: u8, log: &Ring, slots: &[Record], firsts: &mut F, seconds: &mut S) -> usize
+pub fn truncate<F: Memory, S: Memory>(
+    plan: &Plan,
+    m: u8,
+    log: &Ring,
+    slots: &[Record],
+    firsts: &mut F,
+    seconds: &mut S,
+) -> usize
     ensures { λ r. ⌜ (Sound-log (now (plan .entry)) (now (log .entry)) (now (slots .entry)) → length (F·Memory .words (now (firsts .entry))) ≡ size (now (plan .entry)) → length (S·Memory .words (now (seconds .entry))) ≡ size (now (plan .entry))
         → backups r (F·Memory .words (now (firsts .exit))) (S·Memory .words (now (seconds .exit))) ≡ back-up-records (now (plan .entry)) m (polled (now (log .entry)) (now (slots .entry))) (backups 0 (F·Memory .words (now (firsts .entry))) (S·Memory .words (now (seconds .entry))))) ⌝ }
 {
@@ -61,11 +79,20 @@ fn lock<P: Memory>(plan: &Plan, c: u8, found: &Record, primaries: &mut P) -> Don
     let lines = found.lines;
     let count = found.count as usize;
     let granted = lock_lines(primaries, &lines[0..count], c.saturating_add(1));
-    Done { count: if granted { found.count as u64 } else { 0 }, granted }
+    Done {
+        count: if granted { found.count as u64 } else { 0 },
+        granted,
+    }
 }
 
 // A COMMIT-PRIMARY: each line of the transaction's LOCK is put at the version after the one read.
-fn install<P: Memory>(plan: &Plan, log: &Ring, slots: &[Record], number: u64, primaries: &mut P) -> usize
+fn install<P: Memory>(
+    plan: &Plan,
+    log: &Ring,
+    slots: &[Record],
+    number: u64,
+    primaries: &mut P,
+) -> usize
     ensures { λ r. let ls = locked-lines number (polled (now (log .entry)) (now (slots .entry))) in ⌜ (Sound-log (now (plan .entry)) (now (log .entry)) (now (slots .entry)) → length (words (now (primaries .entry))) ≡ size (now (plan .entry))
         → (words (now (primaries .exit)) ≡ install-lines (words (now (primaries .entry))) ls) × (r ≡ length ls)) ⌝ }
 {
@@ -80,7 +107,14 @@ fn install<P: Memory>(plan: &Plan, log: &Ring, slots: &[Record], number: u64, pr
 }
 
 // An ABORT: those lines of the transaction's LOCK that the coordinator holds are freed.
-fn release<P: Memory>(plan: &Plan, c: u8, log: &Ring, slots: &[Record], number: u64, primaries: &mut P) -> usize
+fn release<P: Memory>(
+    plan: &Plan,
+    c: u8,
+    log: &Ring,
+    slots: &[Record],
+    number: u64,
+    primaries: &mut P,
+) -> usize
     ensures { λ r. let ls = locked-lines number (polled (now (log .entry)) (now (slots .entry))) in ⌜ (Sound-log (now (plan .entry)) (now (log .entry)) (now (slots .entry)) → length (words (now (primaries .entry))) ≡ size (now (plan .entry)) → c < 15
         → (words (now (primaries .exit)) ≡ free-lines (words (now (primaries .entry))) (held-lines (words (now (primaries .entry))) (suc c) ls)) × (r ≡ length (held-lines (words (now (primaries .entry))) (suc c) ls))) ⌝ }
 {
@@ -112,18 +146,30 @@ pub fn handle<P: Memory, F: Memory, S: Memory>(
 {
     match found.kind {
         Kind::Lock => lock(plan, c, found, primaries),
-        Kind::CommitBackup => Done { count: 0, granted: false },
+        Kind::CommitBackup => Done {
+            count: 0,
+            granted: false,
+        },
         Kind::CommitPrimary => {
             let count = install(plan, log, slots, found.number, primaries);
-            Done { count: count as u64, granted: false }
+            Done {
+                count: count as u64,
+                granted: false,
+            }
         }
         Kind::Abort => {
             let count = release(plan, c, log, slots, found.number, primaries);
-            Done { count: count as u64, granted: false }
+            Done {
+                count: count as u64,
+                granted: false,
+            }
         }
         Kind::Truncate => {
             let count = truncate(plan, m, log, slots, firsts, seconds);
-            Done { count: count as u64, granted: false }
+            Done {
+                count: count as u64,
+                granted: false,
+            }
         }
     }
 }

@@ -79,9 +79,9 @@ pub record Examples : Type 0 where
   -- a set-up, and one commit of one word from open to install
   pub set-up : setup-answer plan-A ≡ row 0 64 0 0
   pub one-commit :
-    answers plan-A (install-one 0 5 112 ++ (Poll 0 0 ∷ []))
-    ≡ row 0 0 0 0 ∷ row 0 7 0 0 ∷ row 0 0 0 0 ∷ row 0 1 0 0 ∷ row 0 0 1 0 ∷ row 0 1 1 0
-    ∷ row 0 1 0 0 ∷ row 0 1 2 0 ∷ row 0 2 2 0 ∷ row 0 0 3 1 ∷ row 0 3 1 0 ∷ row 11 0 0 0 ∷ []
+      answers plan-A (install-one 0 5 112 ++ (Poll 0 0 ∷ []))
+      ≡ row 0 0 0 0 ∷ row 0 7 0 0 ∷ row 0 0 0 0 ∷ row 0 1 0 0 ∷ row 0 0 1 0 ∷ row 0 1 1 0
+      ∷ row 0 1 0 0 ∷ row 0 1 2 0 ∷ row 0 2 2 0 ∷ row 0 0 3 1 ∷ row 0 3 1 0 ∷ row 11 0 0 0 ∷ []
   pub installed : primary-word plan-A (install-one 0 5 112) 5 ≡ record { version = 8; holder = 0; value = 112 }
   -- limits
   pub capacity-low : setup-answer (plan-of 3 7) ≡ row 1 0 0 0

@@ -7,7 +7,6 @@ use Rattle.std.specs.declared.result.Result.the-variants.{Ok, Err}
 use Rattle.protocol.specs.declared.call.Refusal.{Refusal}
 
 infixl 10 _>>=_ _>>_
-
 -- an answer of type A, or a refusal
 abbrev pub Try : Type 0 → Type 0
 Try A = Result A Refusal

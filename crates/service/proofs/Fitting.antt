@@ -41,9 +41,12 @@ module _ (p : Plan) (was after : World) (long : Long p was) where
   told = ap (set-up p) (made-fit p was (long .coordinators) (long .records) (long .replies))
 
   pub not-set-up : (n : Refusal) → Sets-up p was after (Err n) → (after .primaries ≡ was .primaries) × (after .firsts ≡ was .firsts) × (after .seconds ≡ was .seconds) × (set-up p asks ≡ Err n)
-  not-set-up n s =
-      ( ap (λ (w : World). w .primaries) (s .refused-unchanged), ap (λ (w : World). w .firsts) (s .refused-unchanged)
-      , ap (λ (w : World). w .seconds) (s .refused-unchanged), sym told ∙ sym (s .answers) )
+  not-set-up n s = (
+    ap (λ (w : World). w .primaries) (s .refused-unchanged),
+    ap (λ (w : World). w .firsts) (s .refused-unchanged),
+    ap (λ (w : World). w .seconds) (s .refused-unchanged),
+    sym told ∙ sym (s .answers),
+  )
 
   accepted-size : (f g : Bool) (k : ℕ) → Ok k ≡ (unless BadPlan f >> (unless BadTables g >> Ok (size p))) → k ≡ size p
   unfolding unless _>>_

@@ -4,9 +4,17 @@ ghost use Rattle.protocol.specs.declared.call.Call.the-variants.{Open, Read, Wr
 ghost use Rattle.directory.specs.Calls.{Does};
 ghost use Rattle.service.specs.Owned.{owned};
 use crate::owner::Directory;
-use directory::{check, commit, poll, send, take, transact, trim};
+use directory::check;
+use directory::commit;
+use directory::poll;
+use directory::send;
+use directory::take;
+use directory::transact;
+use directory::trim;
 use memory::interface::Memory;
-use protocol::call::{Answer, Call, Refusal};
+use protocol::call::Answer;
+use protocol::call::Call;
+use protocol::call::Refusal;
 
 impl<P: Memory, F: Memory, S: Memory> Directory<P, F, S> {
     // Starts a transaction.
@@ -14,7 +22,16 @@ impl<P: Memory, F: Memory, S: Memory> Directory<P, F, S> {
         ensures does { λ r. ⌜ Does (now (self .entry) .plan) (owned (P·Memory .words) (F·Memory .words) (S·Memory .words) (now (self .entry))) (owned (P·Memory .words) (F·Memory .words) (S·Memory .words) (now (self .exit))) r (Open c) ⌝ }
         ensures plan { λ _. ⌜ now (self .exit) .plan ≡ now (self .entry) .plan ⌝ }
     {
-        transact::open(&self.plan, &mut self.coordinators, &self.records, &self.replies, &self.primaries, &self.firsts, &self.seconds, c)
+        transact::open(
+            &self.plan,
+            &mut self.coordinators,
+            &self.records,
+            &self.replies,
+            &self.primaries,
+            &self.firsts,
+            &self.seconds,
+            c,
+        )
     }
 
     // Answers version and value of a word.
@@ -22,7 +39,17 @@ impl<P: Memory, F: Memory, S: Memory> Directory<P, F, S> {
         ensures does { λ r. ⌜ Does (now (self .entry) .plan) (owned (P·Memory .words) (F·Memory .words) (S·Memory .words) (now (self .entry))) (owned (P·Memory .words) (F·Memory .words) (S·Memory .words) (now (self .exit))) r (Read c address) ⌝ }
         ensures plan { λ _. ⌜ now (self .exit) .plan ≡ now (self .entry) .plan ⌝ }
     {
-        transact::read(&self.plan, &mut self.coordinators, &self.records, &self.replies, &self.primaries, &self.firsts, &self.seconds, c, address)
+        transact::read(
+            &self.plan,
+            &mut self.coordinators,
+            &self.records,
+            &self.replies,
+            &self.primaries,
+            &self.firsts,
+            &self.seconds,
+            c,
+            address,
+        )
     }
 
     // Buffers a value for a word that was read.
@@ -30,7 +57,18 @@ impl<P: Memory, F: Memory, S: Memory> Directory<P, F, S> {
         ensures does { λ r. ⌜ Does (now (self .entry) .plan) (owned (P·Memory .words) (F·Memory .words) (S·Memory .words) (now (self .entry))) (owned (P·Memory .words) (F·Memory .words) (S·Memory .words) (now (self .exit))) r (Write c address value) ⌝ }
         ensures plan { λ _. ⌜ now (self .exit) .plan ≡ now (self .entry) .plan ⌝ }
     {
-        transact::write(&self.plan, &mut self.coordinators, &self.records, &self.replies, &self.primaries, &self.firsts, &self.seconds, c, address, value)
+        transact::write(
+            &self.plan,
+            &mut self.coordinators,
+            &self.records,
+            &self.replies,
+            &self.primaries,
+            &self.firsts,
+            &self.seconds,
+            c,
+            address,
+            value,
+        )
     }
 
     // Gives the transaction up.
@@ -38,7 +76,16 @@ impl<P: Memory, F: Memory, S: Memory> Directory<P, F, S> {
         ensures does { λ r. ⌜ Does (now (self .entry) .plan) (owned (P·Memory .words) (F·Memory .words) (S·Memory .words) (now (self .entry))) (owned (P·Memory .words) (F·Memory .words) (S·Memory .words) (now (self .exit))) r (Abandon c) ⌝ }
         ensures plan { λ _. ⌜ now (self .exit) .plan ≡ now (self .entry) .plan ⌝ }
     {
-        transact::abandon(&self.plan, &mut self.coordinators, &self.records, &self.replies, &self.primaries, &self.firsts, &self.seconds, c)
+        transact::abandon(
+            &self.plan,
+            &mut self.coordinators,
+            &self.records,
+            &self.replies,
+            &self.primaries,
+            &self.firsts,
+            &self.seconds,
+            c,
+        )
     }
 
     // Begins the commit, and answers its number.
@@ -46,7 +93,16 @@ impl<P: Memory, F: Memory, S: Memory> Directory<P, F, S> {
         ensures does { λ r. ⌜ Does (now (self .entry) .plan) (owned (P·Memory .words) (F·Memory .words) (S·Memory .words) (now (self .entry))) (owned (P·Memory .words) (F·Memory .words) (S·Memory .words) (now (self .exit))) r (Commit c) ⌝ }
         ensures plan { λ _. ⌜ now (self .exit) .plan ≡ now (self .entry) .plan ⌝ }
     {
-        commit::commit(&self.plan, &mut self.coordinators, &self.records, &self.replies, &self.primaries, &self.firsts, &self.seconds, c)
+        commit::commit(
+            &self.plan,
+            &mut self.coordinators,
+            &self.records,
+            &self.replies,
+            &self.primaries,
+            &self.firsts,
+            &self.seconds,
+            c,
+        )
     }
 
     // Writes the next record that is due, and answers its machine and kind.
@@ -54,7 +110,16 @@ impl<P: Memory, F: Memory, S: Memory> Directory<P, F, S> {
         ensures does { λ r. ⌜ Does (now (self .entry) .plan) (owned (P·Memory .words) (F·Memory .words) (S·Memory .words) (now (self .entry))) (owned (P·Memory .words) (F·Memory .words) (S·Memory .words) (now (self .exit))) r (Send c) ⌝ }
         ensures plan { λ _. ⌜ now (self .exit) .plan ≡ now (self .entry) .plan ⌝ }
     {
-        send::send(&self.plan, &mut self.coordinators, &mut self.records, &self.replies, &self.primaries, &self.firsts, &self.seconds, c)
+        send::send(
+            &self.plan,
+            &mut self.coordinators,
+            &mut self.records,
+            &self.replies,
+            &self.primaries,
+            &self.firsts,
+            &self.seconds,
+            c,
+        )
     }
 
     // Handles the next record of a log, and answers its kind and count.
@@ -62,7 +127,17 @@ impl<P: Memory, F: Memory, S: Memory> Directory<P, F, S> {
         ensures does { λ r. ⌜ Does (now (self .entry) .plan) (owned (P·Memory .words) (F·Memory .words) (S·Memory .words) (now (self .entry))) (owned (P·Memory .words) (F·Memory .words) (S·Memory .words) (now (self .exit))) r (Poll c m) ⌝ }
         ensures plan { λ _. ⌜ now (self .exit) .plan ≡ now (self .entry) .plan ⌝ }
     {
-        poll::poll(&self.plan, &mut self.coordinators, &self.records, &mut self.replies, &mut self.primaries, &mut self.firsts, &mut self.seconds, c, m)
+        poll::poll(
+            &self.plan,
+            &mut self.coordinators,
+            &self.records,
+            &mut self.replies,
+            &mut self.primaries,
+            &mut self.firsts,
+            &mut self.seconds,
+            c,
+            m,
+        )
     }
 
     // Takes a machine's reply, and answers 1 or 0.
@@ -70,7 +145,17 @@ impl<P: Memory, F: Memory, S: Memory> Directory<P, F, S> {
         ensures does { λ r. ⌜ Does (now (self .entry) .plan) (owned (P·Memory .words) (F·Memory .words) (S·Memory .words) (now (self .entry))) (owned (P·Memory .words) (F·Memory .words) (S·Memory .words) (now (self .exit))) r (Take c m) ⌝ }
         ensures plan { λ _. ⌜ now (self .exit) .plan ≡ now (self .entry) .plan ⌝ }
     {
-        take::take(&self.plan, &mut self.coordinators, &self.records, &self.replies, &self.primaries, &self.firsts, &self.seconds, c, m)
+        take::take(
+            &self.plan,
+            &mut self.coordinators,
+            &self.records,
+            &self.replies,
+            &self.primaries,
+            &self.firsts,
+            &self.seconds,
+            c,
+            m,
+        )
     }
 
     // Checks the next word read and not written, and answers its address and 1 or 0.
@@ -78,7 +163,16 @@ impl<P: Memory, F: Memory, S: Memory> Directory<P, F, S> {
         ensures does { λ r. ⌜ Does (now (self .entry) .plan) (owned (P·Memory .words) (F·Memory .words) (S·Memory .words) (now (self .entry))) (owned (P·Memory .words) (F·Memory .words) (S·Memory .words) (now (self .exit))) r (Check c) ⌝ }
         ensures plan { λ _. ⌜ now (self .exit) .plan ≡ now (self .entry) .plan ⌝ }
     {
-        check::check(&self.plan, &mut self.coordinators, &self.records, &self.replies, &self.primaries, &self.firsts, &self.seconds, c)
+        check::check(
+            &self.plan,
+            &mut self.coordinators,
+            &self.records,
+            &self.replies,
+            &self.primaries,
+            &self.firsts,
+            &self.seconds,
+            c,
+        )
     }
 
     // Writes a TRUNCATE, and answers its number.
@@ -86,7 +180,17 @@ impl<P: Memory, F: Memory, S: Memory> Directory<P, F, S> {
         ensures does { λ r. ⌜ Does (now (self .entry) .plan) (owned (P·Memory .words) (F·Memory .words) (S·Memory .words) (now (self .entry))) (owned (P·Memory .words) (F·Memory .words) (S·Memory .words) (now (self .exit))) r (Trim c m) ⌝ }
         ensures plan { λ _. ⌜ now (self .exit) .plan ≡ now (self .entry) .plan ⌝ }
     {
-        trim::trim(&self.plan, &mut self.coordinators, &mut self.records, &self.replies, &self.primaries, &self.firsts, &self.seconds, c, m)
+        trim::trim(
+            &self.plan,
+            &mut self.coordinators,
+            &mut self.records,
+            &self.replies,
+            &self.primaries,
+            &self.firsts,
+            &self.seconds,
+            c,
+            m,
+        )
     }
 
     // Makes a call.

@@ -1,7 +1,8 @@
 // What a directory owns.
 use directory::tables::Coordinator;
 use protocol::plan::Plan;
-use protocol::record::{Record, Reply};
+use protocol::record::Record;
+use protocol::record::Reply;
 
 // The tables have just the entries that the plan needs.
 #[derive(Drop)]

@@ -1,16 +1,26 @@
 // Playing a step file: each entry is handed to the directory, and its answer is printed.
-use crate::row::{Row, name, row_of};
-use memory::cells::{Cells, CellsMemory};
+use crate::row::Row;
+use crate::row::name;
+use crate::row::row_of;
+use memory::cells::Cells;
+use memory::cells::CellsMemory;
 use memory::make::MakeError;
-use protocol::call::{Answer, Outcome, Refusal};
+use protocol::call::Answer;
+use protocol::call::Outcome;
+use protocol::call::Refusal;
 use protocol::plan::Plan;
-use service::make::{HandedBack, Unmade};
+use service::make::HandedBack;
+use service::make::Unmade;
 use service::owner::Directory;
 use std::alloc::Global;
 use std::io;
 use steps::decode::Step;
-use steps::fault::{EntryFault, EntryFromFrame, RunFault, RunFromEntry};
-use steps::sequence::{Placed, Steps};
+use steps::fault::EntryFault;
+use steps::fault::EntryFromFrame;
+use steps::fault::RunFault;
+use steps::fault::RunFromEntry;
+use steps::sequence::Placed;
+use steps::sequence::Steps;
 
 type House = Directory<Cells, Cells, Cells>;
 
@@ -25,12 +35,23 @@ fn next(steps: &mut Steps<'_>) -> Result<Option<Placed>, RunFault> {
 // A directory of the plan over three memories of cells.
 fn house(heap: Global, plan: Plan) -> Result<House, Unmade> {
     let n = 64 * plan.regions as usize;
-    let (Ok(primaries), Ok(firsts), Ok(seconds)) = (Cells::new(heap, n), Cells::new(heap, n), Cells::new(heap, n)) else {
+    let (Ok(primaries), Ok(firsts), Ok(seconds)) = (
+        Cells::new(heap, n),
+        Cells::new(heap, n),
+        Cells::new(heap, n),
+    ) else {
         return Err(Unmade::Refused(Refusal::BadPlan));
     };
     match Directory::new(heap, plan, primaries, firsts, seconds) {
         Ok(house) => Ok(house),
-        Err(HandedBack { cause, primaries: _, firsts: _, seconds: _ }) => Err(cause),
+        Err(
+            HandedBack {
+                cause,
+                primaries: _,
+                firsts: _,
+                seconds: _,
+            },
+        ) => Err(cause),
     }
 }
 
@@ -43,7 +64,12 @@ fn print(rt: &LibcRuntime, entry: usize, name: &str, row: Row) -> io::Result<()>
 }
 
 // The entries after the set-up; a fault ends the reading.
-fn calls(rt: &LibcRuntime, steps: &mut Steps<'_>, house: &mut House, most: usize) -> io::Result<Option<RunFault>> {
+fn calls(
+    rt: &LibcRuntime,
+    steps: &mut Steps<'_>,
+    house: &mut House,
+    most: usize,
+) -> io::Result<Option<RunFault>> {
     for entry in 1..=most {
         let found = match next(steps) {
             Ok(found) => found,
@@ -84,6 +110,15 @@ pub fn play(rt: &LibcRuntime, bytes: &[u8]) -> io::Result<Option<RunFault>> {
         Err(Unmade::NoMemory) => return Err(io::ErrorKind::OutOfMemory.into()),
     };
     let size = 64 * plan.regions as u64;
-    print(rt, 0, "setup", row_of(Ok(Answer { first: size, second: 0, outcome: Outcome::Going })))?;
+    print(
+        rt,
+        0,
+        "setup",
+        row_of(Ok(Answer {
+            first: size,
+            second: 0,
+            outcome: Outcome::Going,
+        })),
+    )?;
     calls(rt, &mut steps, &mut house, bytes.len())
 }

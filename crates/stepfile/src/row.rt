@@ -2,7 +2,10 @@
 ghost use mathlib.Core.Path.{_≡_};
 ghost use mathlib.Core.List.{[], _∷_};
 ghost use Rattle.protocol.specs.Call.{numbers, outcome-number, refusal-number};
-use protocol::call::{Answer, Call, Outcome, Refusal};
+use protocol::call::Answer;
+use protocol::call::Call;
+use protocol::call::Outcome;
+use protocol::call::Refusal;
 
 // An answer as it is printed: the refusal's number or 0, two numbers, and the outcome's number.
 #[derive(Clone, Copy)]
@@ -45,8 +48,18 @@ pub fn row_of(answer: Result<Answer, Refusal>) -> Row
     ensures { λ r. ⌜ r .refusal ∷ r .first ∷ r .second ∷ r .outcome ∷ [] ≡ numbers answer ⌝ }
 {
     match answer {
-        Ok(given) => Row { refusal: 0, first: given.first, second: given.second, outcome: outcome_number(given.outcome) },
-        Err(refusal) => Row { refusal: refusal_number(refusal), first: 0, second: 0, outcome: 0 },
+        Ok(given) => Row {
+            refusal: 0,
+            first: given.first,
+            second: given.second,
+            outcome: outcome_number(given.outcome),
+        },
+        Err(refusal) => Row {
+            refusal: refusal_number(refusal),
+            first: 0,
+            second: 0,
+            outcome: 0,
+        },
     }
 }
 

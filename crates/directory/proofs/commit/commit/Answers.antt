@@ -20,11 +20,12 @@ has-room-requires g c κs =
     let w = (world (c .args .coordinators .now) (c .args .records .now) (c .args .replies .now) (g .P·Memory .words (c .args .primaries .now)) (g .F·Memory .words (c .args .firsts .now)) (g .S·Memory .words (c .args .seconds .now))) in
     let in′ = inside (c .args .plan .now) w (c .args .c) (c .in-Continue-admit .ensures tt .answers) in
     let few = commit-sizes (c .args .plan .now) w (c .args .c) in′ (c .index-coordinators-c .result) in
-    record
-    { machines = few .machines .1
-    ; capacity = few .capacity .1
-    ; c = commit-under (c .args .plan .now) w (c .args .c) in′ (c .index-coordinators-c .result)
-    ; records = commit-records (c .args .plan .now) w (c .args .c) in′ (c .index-coordinators-c .result) }
+    record {
+      machines = few .machines .1;
+      capacity = few .capacity .1;
+      c = commit-under (c .args .plan .now) w (c .args .c) in′ (c .index-coordinators-c .result);
+      records = commit-records (c .args .plan .now) w (c .args .c) in′ (c .index-coordinators-c .result);
+    }
 
 pub returns-in-rest-has-room : need.returns-in-rest-has-room
 returns-in-rest-has-room g c =

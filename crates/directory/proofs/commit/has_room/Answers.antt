@@ -18,14 +18,14 @@ pub returns-then-not-has-place : need.returns-then-not-has-place
 returns-then-not-has-place c = λ s.
     test-fails (roomy-at (c .args .plan .now) (c .args .c) (c .args .own .now) (c .args .records .now)) (c .loop-m .m) _ _ (omega arith)
     (sym (roomy-told (c .args .plan .now) (c .args .c) (c .args .own .now) (c .args .records .now) (c .pre .machines) (c .pre .c) (c .pre .records) (c .loop-m .m) (omega arith) _ (omega arith) _ _
-      (c .to-write-n .ensures .is ∙ ap (λ (n : ℕ). wanted (c .args .plan .now) (take n (c .args .own .now .work .writes)) (c .loop-m .m)) (omega arith)) (c .if-not-has-place .ensures tt) s))
+    (c .to-write-n .ensures .is ∙ ap (λ (n : ℕ). wanted (c .args .plan .now) (take n (c .args .own .now .work .writes)) (c .loop-m .m)) (omega arith)) (c .if-not-has-place .ensures tt) s))
     (c .loop-m .inv s)
 
 pub loop-m-again : need.loop-m-again
 loop-m-again c = λ s.
     test-more (roomy-at (c .args .plan .now) (c .args .c) (c .args .own .now) (c .args .records .now)) (c .loop-m .m) _ _ (omega arith)
     (sym (roomy-told (c .args .plan .now) (c .args .c) (c .args .own .now) (c .args .records .now) (c .pre .machines) (c .pre .c) (c .pre .records) (c .loop-m .m) (omega arith) _ (omega arith) _ _
-      (c .to-write-n .ensures .is ∙ ap (λ (n : ℕ). wanted (c .args .plan .now) (take n (c .args .own .now .work .writes)) (c .loop-m .m)) (omega arith)) (c .if-not-has-place .ensures tt) s))
+    (c .to-write-n .ensures .is ∙ ap (λ (n : ℕ). wanted (c .args .plan .now) (take n (c .args .own .now .work .writes)) (c .loop-m .m)) (omega arith)) (c .if-not-has-place .ensures tt) s))
     (c .loop-m .inv s)
 
 pub returns : need.returns

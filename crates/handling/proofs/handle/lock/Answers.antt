@@ -14,7 +14,7 @@ returns-then-granted g c =
     (λ (n : ℕ). Handles-lock (c .args .plan .now) (c .args .c) (note (c .args .found .now)) (g .P·Memory .words (c .args .primaries .now)) (g .P·Memory .words (c .lock-lines-granted .last .memory)) (record { count = n; granted = c .lock-lines-granted .result }))
     (ap (λ (b : Bool). cond b (c .args .found .now .count) 0) (c .if-granted .taken))
     (locks-or-not (c .args .plan .now) (c .args .found .now) _ (omega arith) (g .P·Memory .words (c .args .primaries .now)) (g .P·Memory .words (c .lock-lines-granted .last .memory)) (c .args .c) (c .saturating-add .result) (c .saturating-add .ensures)
-      (c .lock-lines-granted .result) (c .lock-lines-granted .ensures .after) (c .lock-lines-granted .ensures .all-fit))
+    (c .lock-lines-granted .result) (c .lock-lines-granted .ensures .after) (c .lock-lines-granted .ensures .all-fit))
 
 pub returns-else-granted : need.returns-else-granted
 returns-else-granted g c =
@@ -22,4 +22,4 @@ returns-else-granted g c =
     (λ (n : ℕ). Handles-lock (c .args .plan .now) (c .args .c) (note (c .args .found .now)) (g .P·Memory .words (c .args .primaries .now)) (g .P·Memory .words (c .lock-lines-granted .last .memory)) (record { count = n; granted = c .lock-lines-granted .result }))
     (ap (λ (b : Bool). cond b (c .args .found .now .count) 0) (c .if-granted .left))
     (locks-or-not (c .args .plan .now) (c .args .found .now) _ (omega arith) (g .P·Memory .words (c .args .primaries .now)) (g .P·Memory .words (c .lock-lines-granted .last .memory)) (c .args .c) (c .saturating-add .result) (c .saturating-add .ensures)
-      (c .lock-lines-granted .result) (c .lock-lines-granted .ensures .after) (c .lock-lines-granted .ensures .all-fit))
+    (c .lock-lines-granted .result) (c .lock-lines-granted .ensures .after) (c .lock-lines-granted .ensures .all-fit))

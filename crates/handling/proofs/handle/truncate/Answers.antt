@@ -19,10 +19,10 @@ pub loop-i-again : need.loop-i-again
 loop-i-again g c = λ s a b.
     let before = c .loop-i .inv s a b in
     let exact : c .saturating-add-puts .result ≡ c .loop-i .puts + c .back-up-record .result =
-          omega (arith, c .saturating-add-puts .ensures, before .few, c .back-up-record .ensures .few, c .loop-i-test .taken, s .stands .cursor, s .stands .len, s .few) in
+    omega (arith, c .saturating-add-puts .ensures, before .few, c .back-up-record .ensures .few, c .loop-i-test .taken, s .stands .cursor, s .stands .len, s .few) in
     subst
     (λ (n : ℕ). Backed-up (c .args .plan .now) (c .args .m) (c .loop-i .i + 1) (notes (c .args .log .now) (c .args .slots .now)) (g .F·Memory .words (c .args .firsts .now)) (g .S·Memory .words (c .args .seconds .now))
-      (g .F·Memory .words (c .back-up-record .last .firsts)) (g .S·Memory .words (c .back-up-record .last .seconds)) n)
+    (g .F·Memory .words (c .back-up-record .last .firsts)) (g .S·Memory .words (c .back-up-record .last .seconds)) n)
     (sym exact)
     (backed-more (c .args .plan .now) (c .args .m) (c .loop-i .i) (c .args .log .now) (c .args .slots .now) _ _ (c .in-Some .entry) _ _ _ _ _ _ (c .in-Some .ensures tt (s .stands)) (s, a, b) before (c .back-up-record .ensures))
 

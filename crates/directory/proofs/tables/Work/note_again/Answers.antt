@@ -6,8 +6,9 @@ use Rattle.protocol.specs.Transact.{revalued}
 use Rattle.directory.proofs.tables.Work.note_again.Needs as need
 
 pub returns : need.returns
-returns c = record
-  { phase = refl
-  ; next = refl
-  ; reads = refl
-  ; writes = ap (take (c .args .self .now .nwrites)) (c .revalue-all .ensures) ∙ take-map (revalued (c .args .address) (c .args .value)) (c .args .self .now .nwrites) (c .args .self .now .writes) }
+returns c = record {
+  phase = refl;
+  next = refl;
+  reads = refl;
+  writes = ap (take (c .args .self .now .nwrites)) (c .revalue-all .ensures) ∙ take-map (revalued (c .args .address) (c .args .value)) (c .args .self .now .nwrites) (c .args .self .now .writes);
+}

@@ -19,11 +19,12 @@ returns-in-Ok-set-up g c =
     let was : World = world (c .deref-mut .result .now) (c .deref .result .now) (c .deref-2 .result .now) (g .P·Memory .words (c .args .primaries)) (g .F·Memory .words (c .args .firsts)) (g .S·Memory .words (c .args .seconds)) in
     let after : World = world (c .set-up .last .coordinators) (c .deref .result .now) (c .deref-2 .result .now) (g .P·Memory .words (c .set-up .last .primaries)) (g .F·Memory .words (c .set-up .last .firsts)) (g .S·Memory .words (c .set-up .last .seconds)) in
     let long : Long (c .args .plan) was = record { coordinators = ap length (c .deref-mut .ensures .value) ∙ fit .coordinators; records = ap length (c .deref .ensures .value) ∙ fit .records; replies = ap length (c .deref-2 .ensures .value) ∙ fit .replies } in
-    let done = c .in-Ok-set-up .ensures tt in
-    ( refl
-    , is-set-up (c .args .plan) was after long _ done
-    , lent (λ _ w. Ready (c .args .plan) w) [] [] _ _ [] [] _ _ [] [] _ _ [] [] [] _ _ _ refl (held-last (c .set-up .last .coordinators) _ _ (c .set-up .kept .coordinators ∙ c .deref-mut .ensures .len))
-      refl (c .deref .ensures .value) refl (c .deref-2 .ensures .value) (done .ready) )
+    let done = c .in-Ok-set-up .ensures tt in (
+      refl,
+      is-set-up (c .args .plan) was after long _ done,
+      lent (λ _ w. Ready (c .args .plan) w) [] [] _ _ [] [] _ _ [] [] _ _ [] [] [] _ _ _ refl (held-last (c .set-up .last .coordinators) _ _ (c .set-up .kept .coordinators ∙ c .deref-mut .ensures .len))
+          refl (c .deref .ensures .value) refl (c .deref-2 .ensures .value) (done .ready),
+    )
 
 pub returns-in-Err : need.returns-in-Err
 returns-in-Err g c =

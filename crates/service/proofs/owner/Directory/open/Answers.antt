@@ -6,9 +6,10 @@ use Rattle.service.proofs.Lending.{held-last, lent}
 use Rattle.service.proofs.owner.Directory.open.Needs as need
 
 pub returns : need.returns
-returns g c = record
-  { does =
+returns g c = record {
+  does =
       lent (λ u v. Does (c .args .self .now .plan) u v (c .open .result) (Open (c .args .c))) _ _ _ _ _ _ _ _ _ _ _ _ _ _ _ _ _ _
       (c .deref-mut .ensures .value) (held-last (c .open .last .coordinators) _ _ (c .open .kept .coordinators ∙ c .deref-mut .ensures .len))
-      (c .deref .ensures .value) (c .deref .ensures .value) (c .deref-2 .ensures .value) (c .deref-2 .ensures .value) (c .open .ensures)
-  ; plan = refl }
+      (c .deref .ensures .value) (c .deref .ensures .value) (c .deref-2 .ensures .value) (c .deref-2 .ensures .value) (c .open .ensures);
+  plan = refl;
+}

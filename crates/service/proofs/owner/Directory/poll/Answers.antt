@@ -6,9 +6,10 @@ use Rattle.service.proofs.Lending.{held-last, lent}
 use Rattle.service.proofs.owner.Directory.poll.Needs as need
 
 pub returns : need.returns
-returns g c = record
-  { does =
+returns g c = record {
+  does =
       lent (λ u v. Does (c .args .self .now .plan) u v (c .poll .result) (Poll (c .args .c) (c .args .m))) _ _ _ _ _ _ _ _ _ _ _ _ _ _ _ _ _ _
       (c .deref-mut .ensures .value) (held-last (c .poll .last .coordinators) _ _ (c .poll .kept .coordinators ∙ c .deref-mut .ensures .len))
-      (c .deref .ensures .value) (c .deref .ensures .value) (c .deref-mut-2 .ensures .value) (held-last (c .poll .last .replies) _ _ (c .poll .kept .replies ∙ c .deref-mut-2 .ensures .len)) (c .poll .ensures)
-  ; plan = refl }
+      (c .deref .ensures .value) (c .deref .ensures .value) (c .deref-mut-2 .ensures .value) (held-last (c .poll .last .replies) _ _ (c .poll .kept .replies ∙ c .deref-mut-2 .ensures .len)) (c .poll .ensures);
+  plan = refl;
+}

@@ -6,9 +6,10 @@ use Rattle.service.proofs.Lending.{held-last, lent}
 use Rattle.service.proofs.owner.Directory.trim.Needs as need
 
 pub returns : need.returns
-returns g c = record
-  { does =
+returns g c = record {
+  does =
       lent (λ u v. Does (c .args .self .now .plan) u v (c .trim .result) (Trim (c .args .c) (c .args .m))) _ _ _ _ _ _ _ _ _ _ _ _ _ _ _ _ _ _
       (c .deref-mut .ensures .value) (held-last (c .trim .last .coordinators) _ _ (c .trim .kept .coordinators ∙ c .deref-mut .ensures .len))
-      (c .deref-mut-2 .ensures .value) (held-last (c .trim .last .records) _ _ (c .trim .kept .records ∙ c .deref-mut-2 .ensures .len)) (c .deref .ensures .value) (c .deref .ensures .value) (c .trim .ensures)
-  ; plan = refl }
+      (c .deref-mut-2 .ensures .value) (held-last (c .trim .last .records) _ _ (c .trim .kept .records ∙ c .deref-mut-2 .ensures .len)) (c .deref .ensures .value) (c .deref .ensures .value) (c .trim .ensures);
+  plan = refl;
+}
