@@ -1,2 +1,3 @@
 pub mod Owned
 pub mod Making
+pub mod Running

@@ -2,3 +2,4 @@
 pub mod calls;
 pub mod make;
 pub mod owner;
+pub mod run;
