@@ -1,15 +1,25 @@
 // The lines that a step file is answered with.
-use crate::row::{Row, name, row_of};
-use memory::cells::{Cells, CellsMemory};
-use protocol::call::{Answer, Outcome, Refusal};
+use crate::row::Row;
+use crate::row::name;
+use crate::row::row_of;
+use memory::cells::Cells;
+use memory::cells::CellsMemory;
+use protocol::call::Answer;
+use protocol::call::Outcome;
+use protocol::call::Refusal;
 use protocol::plan::Plan;
-use service::make::{HandedBack, Unmade};
+use service::make::HandedBack;
+use service::make::Unmade;
 use service::owner::Directory;
 use std::alloc::AllocError;
 use std::alloc::Global;
 use steps::decode::Step;
-use steps::fault::{EntryFault, EntryFromFrame, RunFault, RunFromEntry};
-use steps::sequence::{Placed, Steps};
+use steps::fault::EntryFault;
+use steps::fault::EntryFromFrame;
+use steps::fault::RunFault;
+use steps::fault::RunFromEntry;
+use steps::sequence::Placed;
+use steps::sequence::Steps;
 
 type House = Directory<Cells, Cells, Cells>;
 
@@ -24,24 +34,42 @@ fn next(steps: &mut Steps<'_>) -> Result<Option<Placed>, RunFault> {
 // A directory of the plan over three memories of cells.
 fn house(heap: Global, plan: Plan) -> Result<House, Unmade> {
     let n = 64 * plan.regions as usize;
-    let (Ok(primaries), Ok(firsts), Ok(seconds)) =
-        (Cells::new(heap, n), Cells::new(heap, n), Cells::new(heap, n))
-    else {
+    let (Ok(primaries), Ok(firsts), Ok(seconds)) = (
+        Cells::new(heap, n),
+        Cells::new(heap, n),
+        Cells::new(heap, n),
+    ) else {
         return Err(Unmade::Refused(Refusal::BadPlan));
     };
     match Directory::new(heap, plan, primaries, firsts, seconds) {
         Ok(house) => Ok(house),
-        Err(HandedBack { cause, primaries: _, firsts: _, seconds: _ }) => Err(cause),
+        Err(
+            HandedBack {
+                cause,
+                primaries: _,
+                firsts: _,
+                seconds: _,
+            },
+        ) => Err(cause),
     }
 }
 
 // One line more: the entry's number, its name and its answer.
-fn answer_line(heap: Global, out: &mut String, entry: usize, name: &str, row: Row) -> Result<(), AllocError> {
+fn answer_line(
+    heap: Global,
+    out: &mut String,
+    entry: usize,
+    name: &str,
+    row: Row,
+) -> Result<(), AllocError> {
     let refusal = row.refusal;
     let first = row.first;
     let second = row.second;
     let outcome = row.outcome;
-    let line = format!(heap, "{entry} {name} {refusal} {first} {second} {outcome}\n")?;
+    let line = format!(
+        heap,
+        "{entry} {name} {refusal} {first} {second} {outcome}\n"
+    )?;
     out.push_str(line.as_str())
 }
 
@@ -55,7 +83,13 @@ fn fault_line(heap: Global, out: &mut String, fault: RunFault) -> Result<(), All
 }
 
 // The entries after the set-up, at most that many; a fault ends the reading.
-fn calls(heap: Global, out: &mut String, steps: &mut Steps<'_>, house: &mut House, most: usize) -> Result<(), AllocError> {
+fn calls(
+    heap: Global,
+    out: &mut String,
+    steps: &mut Steps<'_>,
+    house: &mut House,
+    most: usize,
+) -> Result<(), AllocError> {
     for entry in 1..=most {
         let found = match next(steps) {
             Ok(found) => found,
@@ -92,11 +126,19 @@ fn play(heap: Global, out: &mut String, bytes: &[u8]) -> Result<(), AllocError> 
     };
     let mut house = match house(heap, plan) {
         Ok(house) => house,
-        Err(Unmade::Refused(refusal)) => return fault_line(heap, out, RunFault::SetUp { refusal, place }),
+        Err(Unmade::Refused(refusal)) => return fault_line(
+            heap,
+            out,
+            RunFault::SetUp { refusal, place },
+        ),
         Err(Unmade::NoMemory) => return Err(AllocError),
     };
     let size = 64 * plan.regions as u64;
-    let ready = Answer { first: size, second: 0, outcome: Outcome::Going };
+    let ready = Answer {
+        first: size,
+        second: 0,
+        outcome: Outcome::Going,
+    };
     answer_line(heap, out, 0, "setup", row_of(Ok(ready)))?;
     calls(heap, out, &mut steps, &mut house, bytes.len())
 }
