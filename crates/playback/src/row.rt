@@ -1,6 +1,7 @@
 // The numbers and the name that are printed of a call.
 ghost use mathlib.Core.Path.{_≡_};
 ghost use mathlib.Core.List.{[], _∷_};
+ghost use Rattle.playback.specs.Names.{name-of};
 ghost use Rattle.protocol.specs.Call.{numbers, outcome-number, refusal-number};
 use protocol::call::Answer;
 use protocol::call::Call;
@@ -64,7 +65,9 @@ pub fn row_of(answer: Result<Answer, Refusal>) -> Row
 }
 
 // The call's name in the output.
-pub fn name(call: Call) -> &'static str {
+pub fn name(call: Call) -> &'static str
+    ensures { λ r. ⌜ now r ≡ name-of call ⌝ }
+{
     match call {
         Call::Open(_) => "open",
         Call::Read(_, _) => "read",
