@@ -4,6 +4,7 @@ use crate::row::name;
 use crate::row::row_of;
 use memory::cells::Cells;
 use memory::cells::CellsMemory;
+use memory::make::MakeError;
 use protocol::call::Answer;
 use protocol::call::Outcome;
 use protocol::call::Refusal;
@@ -31,16 +32,21 @@ fn next(steps: &mut Steps<'_>) -> Result<Option<Placed>, RunFault> {
     Ok(steps.next()?)
 }
 
+// A new memory for a plan; a size that no memory has is the plan's fault.
+fn cells(heap: Global, n: usize) -> Result<Cells, Unmade> {
+    match Cells::new(heap, n) {
+        Ok(memory) => Ok(memory),
+        Err(MakeError::BadSize) => Err(Unmade::Refused(Refusal::BadPlan)),
+        Err(MakeError::NoMemory) => Err(Unmade::NoMemory),
+    }
+}
+
 // A directory of the plan over three memories of cells.
 fn house(heap: Global, plan: Plan) -> Result<House, Unmade> {
     let n = 64 * plan.regions as usize;
-    let (Ok(primaries), Ok(firsts), Ok(seconds)) = (
-        Cells::new(heap, n),
-        Cells::new(heap, n),
-        Cells::new(heap, n),
-    ) else {
-        return Err(Unmade::Refused(Refusal::BadPlan));
-    };
+    let primaries = cells(heap, n)?;
+    let firsts = cells(heap, n)?;
+    let seconds = cells(heap, n)?;
     match Directory::new(heap, plan, primaries, firsts, seconds) {
         Ok(house) => Ok(house),
         Err(

@@ -2,7 +2,7 @@
 use mathlib.Core.List.{List, [], _∷_, _++_}
 use mathlib.Core.Logic.{_⊎_, inl, inr}
 use mathlib.Core.Path.{_≡_, sym, ap, subst, _∙_}
-use Prim.Native.Nat.{ℕ, _/_, _%_, _≤_, _<_, min}
+use Prim.Native.Nat.{ℕ, _≤_, _<_, min}
 use native.Mathlib.Omega.{arith}
 use lib.ListN.{length, take}
 use Rattle.std.specs.Vec.{made}
@@ -17,7 +17,7 @@ use Rattle.steps.specs.declared.decode.Step.{Step}
 use Rattle.steps.specs.Encoding.{home-bytes, encoded-plan, encoded, Decodes-back}
 use Rattle.steps.specs.Writing.{big-endian}
 use Rattle.steps.proofs.Coding.{decodes-back}
-use Rattle.steps.proofs.Numbers.{eight-digits}
+use Rattle.steps.proofs.Numbers.{eight-quotients, eight-digits}
 
 -- at most all of a list
 take-min : {X : Type 0} (n m : ℕ) (xs : List X) → length xs ≡ m → take (min n m) xs ≡ take n xs
@@ -27,20 +27,8 @@ take-min n m xs l = go (cases-lt n m)
     go (inl under) = let e : min n m ≡ n = omega arith in ap (λ k. take k xs) e
     go (inr over) = let e : min n m ≡ m = omega arith in ap (λ k. take k xs) e ∙ take-all m xs (omega arith) ∙ sym (take-all n xs (omega arith))
 
-abbrev digits : ℕ → List ℕ
-digits v =
-    v / 72057594037927936 % 256
-    ∷ v / 281474976710656 % 256
-    ∷ v / 1099511627776 % 256
-    ∷ v / 4294967296 % 256
-    ∷ v / 16777216 % 256
-    ∷ v / 65536 % 256
-    ∷ v / 256 % 256
-    ∷ v % 256
-    ∷ []
-
 pub plan-written : (p : Plan) (all most start first : List ℕ) (count : ℕ)
-    → start ≡ digits (p .start) → first ≡ digits (p .first) → count ≡ min (p .regions) 8
+    → start ≡ eight-quotients (p .start) → first ≡ eight-quotients (p .first) → count ≡ min (p .regions) 8
     → most ≡ ((0 ∷ p .machines ∷ p .coordinators ∷ p .regions ∷ p .capacity ∷ []) ++ start) ++ first
     → all ≡ most ++ joined home-bytes (take count (p .homes))
     → all ≡ encoded-plan p

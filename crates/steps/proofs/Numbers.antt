@@ -1,6 +1,6 @@
 -- A number and its bytes, the highest first, say the same.
 use mathlib.Core.List.{List, [], _∷_, _++_}
-use mathlib.Core.Path.{_≡_, refl, sym, ap, _∙_}
+use mathlib.Core.Path.{_≡_, sym, ap, _∙_}
 use Prim.Native.Nat.{ℕ, zero, suc, _+_, _*_, _/_, _%_, _^_, _<_}
 use native.Mathlib.Nat.{div-div-eq-div-mul, pow-suc}
 use native.Mathlib.Omega.{arith}
@@ -10,12 +10,8 @@ use Rattle.std.specs.shelf.Digits.{number, Under}
 use Rattle.std.proofs.shelf.Bits.{div-mul-add, mod-mul-add}
 use Rattle.std.proofs.shelf.Digits.{number-push}
 use Rattle.std.proofs.shelf.Elements.{all-getD, all-take}
-use Rattle.std.proofs.shelf.Lists.{nil-from-length, length-push}
+use Rattle.std.proofs.shelf.Lists.{nil-from-length}
 use Rattle.steps.specs.Writing.{big-endian}
-
-pub length-big-endian : (w n : ℕ) → length (big-endian w n) ≡ w
-length-big-endian zero n = refl
-length-big-endian (suc w) n = length-push (big-endian w (n / 256)) (n % 256) ∙ omega (arith, length-big-endian w (n / 256))
 
 pub number-big-endian : (w n : ℕ) → n < 256 ^ w → number 256 (big-endian w n) ≡ n
 number-big-endian zero n h = omega arith
@@ -42,9 +38,9 @@ big-endian-number (suc w) bs h u =
     ∙ sym (split-last w bs h)
 
 -- the bytes of a number of eight bytes, each by one division
-pub eight-digits : (v : ℕ)
-    → big-endian 8 v
-    ≡ v / 72057594037927936 % 256
+abbrev pub eight-quotients : ℕ → List ℕ
+eight-quotients v =
+    v / 72057594037927936 % 256
     ∷ v / 281474976710656 % 256
     ∷ v / 1099511627776 % 256
     ∷ v / 4294967296 % 256
@@ -53,6 +49,8 @@ pub eight-digits : (v : ℕ)
     ∷ v / 256 % 256
     ∷ v % 256
     ∷ []
+
+pub eight-digits : (v : ℕ) → big-endian 8 v ≡ eight-quotients v
 eight-digits v =
     let two : v / 256 / 256 ≡ v / 65536 = div-div-eq-div-mul v 256 256 in
     let three : v / 256 / 256 / 256 ≡ v / 16777216 = ap (λ x. x / 256) two ∙ div-div-eq-div-mul v 65536 256 in
