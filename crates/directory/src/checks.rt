@@ -63,7 +63,7 @@ pub fn plan_ok(plan: &Plan) -> bool
 }
 
 // The tables are long enough, and each memory has the plan's words.
-pub fn tables_ok<P: Memory, F: Memory, S: Memory>(
+pub(crate) fn tables_ok<P: Memory, F: Memory, S: Memory>(
     plan: &Plan,
     coordinators: &[Coordinator],
     records: &[Record],
@@ -86,7 +86,7 @@ pub fn tables_ok<P: Memory, F: Memory, S: Memory>(
 }
 
 // The plan and the tables are fit for a call, and the coordinator is there.
-pub fn admit<P: Memory, F: Memory, S: Memory>(
+pub(crate) fn admit<P: Memory, F: Memory, S: Memory>(
     plan: &Plan,
     coordinators: &[Coordinator],
     records: &[Record],

@@ -20,7 +20,7 @@ use protocol::record::Record;
 
 impl Work {
     // The kind of the records that are sent in this phase.
-    pub fn kind_due(&self) -> Option<Kind>
+    pub(crate) fn kind_due(&self) -> Option<Kind>
         ensures { λ r. ⌜ r ≡ kind-due (now (self .entry) .phase) ⌝ }
     {
         match self.phase {
@@ -33,7 +33,7 @@ impl Work {
     }
 
     // The lowest machine that is still due a record of that kind.
-    pub fn machine_due(&self, plan: &Plan, kind: Kind) -> Option<u8>
+    pub(crate) fn machine_due(&self, plan: &Plan, kind: Kind) -> Option<u8>
         ensures lowest { λ r. ⌜ r ≡ first-of (due-from (now (plan .entry)) kind (writes-of (now (self .entry))) (now (self .entry) .due)) ⌝ }
         ensures within { λ r. ⌜ Of-plan (now (plan .entry)) r ⌝ }
     {
@@ -42,7 +42,7 @@ impl Work {
     }
 
     // The last number given: all are where there is no next one.
-    pub fn last_given(&self) -> u64
+    pub(crate) fn last_given(&self) -> u64
         ensures { λ r. ⌜ r ≡ pred (next-of (now (self .entry) .next)) ⌝ }
     {
         match self.next {
@@ -52,7 +52,7 @@ impl Work {
     }
 
     // The record of that kind for machine m.
-    pub fn record_due(&self, plan: &Plan, c: u8, kind: Kind, m: u8) -> Record
+    pub(crate) fn record_due(&self, plan: &Plan, c: u8, kind: Kind, m: u8) -> Record
         ensures { λ r. ⌜ (In-eight-regions (writes-of (now (self .entry))) → note r ≡ record-of (now (plan .entry)) c (pred (next-of (now (self .entry) .next))) kind m (writes-of (now (self .entry)))) ⌝ }
     {
         let count = self.nwrites as usize;

@@ -26,7 +26,7 @@ use protocol::record::Record;
 use protocol::record::Reply;
 use ring::Ring;
 
-pub fn kind_number(kind: Kind) -> u64
+pub(crate) fn kind_number(kind: Kind) -> u64
     ensures { λ r. ⌜ r ≡ number-of kind ⌝ }
 {
     match kind {

@@ -49,7 +49,7 @@ fn revalue_all(lines: &mut [Line], address: u16, value: u64)
 
 impl Work {
     // The line of a word read in this transaction.
-    pub fn read_at(&self, address: u16) -> Option<Line>
+    pub(crate) fn read_at(&self, address: u16) -> Option<Line>
         ensures { λ r. ⌜ r ≡ line-at address (reads-of (now (self .entry))) ⌝ }
     {
         let count = self.nreads as usize;
@@ -57,7 +57,7 @@ impl Work {
     }
 
     // The line of a word written in this transaction.
-    pub fn write_at(&self, address: u16) -> Option<Line>
+    pub(crate) fn write_at(&self, address: u16) -> Option<Line>
         ensures { λ r. ⌜ r ≡ line-at address (writes-of (now (self .entry))) ⌝ }
     {
         let count = self.nwrites as usize;
@@ -65,7 +65,7 @@ impl Work {
     }
 
     // The value of a word that was read: the one last written, else the one read.
-    pub fn value_of(&self, line: Line, address: u16) -> u64
+    pub(crate) fn value_of(&self, line: Line, address: u16) -> u64
         ensures { λ r. ⌜ r ≡ value-of line (line-at address (writes-of (now (self .entry)))) ⌝ }
     {
         match self.write_at(address) {
@@ -75,7 +75,7 @@ impl Work {
     }
 
     // A transaction begins, with nothing read or written.
-    pub fn begin(&mut self)
+    pub(crate) fn begin(&mut self)
         ensures { λ _. ⌜ Leaves (now (self .exit)) Open (now (self .entry) .next) [] [] ⌝ }
     {
         self.phase = Phase::Open;
@@ -84,14 +84,14 @@ impl Work {
     }
 
     // The transaction is over.
-    pub fn rest(&mut self)
+    pub(crate) fn rest(&mut self)
         ensures { λ _. ⌜ Leaves (now (self .exit)) Idle (now (self .entry) .next) (reads-of (now (self .entry))) (writes-of (now (self .entry))) ⌝ }
     {
         self.phase = Phase::Idle;
     }
 
     // One more word is read.
-    pub fn note_read(&mut self, line: Line)
+    pub(crate) fn note_read(&mut self, line: Line)
         requires { ⌜ now self .nreads < 8 ⌝ }
         ensures { λ _. ⌜ Leaves (now (self .exit)) (now (self .entry) .phase) (now (self .entry) .next) (snoc (reads-of (now (self .entry))) line) (writes-of (now (self .entry))) ⌝ }
     {
@@ -101,7 +101,7 @@ impl Work {
     }
 
     // One more word is written.
-    pub fn note_write(&mut self, line: Line)
+    pub(crate) fn note_write(&mut self, line: Line)
         requires { ⌜ now self .nwrites < 4 ⌝ }
         ensures { λ _. ⌜ Leaves (now (self .exit)) (now (self .entry) .phase) (now (self .entry) .next) (reads-of (now (self .entry))) (snoc (writes-of (now (self .entry))) line) ⌝ }
     {
@@ -111,7 +111,7 @@ impl Work {
     }
 
     // A word written before takes another value.
-    pub fn note_again(&mut self, address: u16, value: u64)
+    pub(crate) fn note_again(&mut self, address: u16, value: u64)
         ensures { λ _. ⌜ Leaves (now (self .exit)) (now (self .entry) .phase) (now (self .entry) .next) (reads-of (now (self .entry))) (rewrite (writes-of (now (self .entry))) address value) ⌝ }
     {
         revalue_all(&mut self.writes, address, value);
