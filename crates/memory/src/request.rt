@@ -23,8 +23,8 @@ pub enum Response {
 
 // Makes one request of a memory.
 pub fn ask<M: Memory>(memory: &mut M, request: Request) -> Response
-    ensures answer { result ≡ response (words memory.old) request }
-    ensures after { words memory.new ≡ words_after (words memory.old) request }
+    ensures answer { result ≡ response (M.words memory.old) request }
+    ensures after { M.words memory.new ≡ words_after (M.words memory.old) request }
 {
     match request {
         Request::Size => Response::Count(memory.size()),

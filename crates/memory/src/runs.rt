@@ -12,9 +12,9 @@ pub fn run<M: Memory>(
     memory: &mut M,
     requests: &[Request],
 ) -> Result<Vec<Response>, AllocError>
-    ensures answers { IfOk result (λ rs. rs.items ≡ responses (words memory.old) requests.now) }
-    ensures after { let ws = words memory.old in words memory.new ≡ (if is_ok result then words_after_all ws requests.now else ws) }
-    ensures laws { IfOk result (λ rs. Laws (words memory.old) requests.now rs.items (words memory.new)) }
+    ensures answers { IfOk result (λ rs. rs.items ≡ responses (M.words memory.old) requests.now) }
+    ensures after { let ws = M.words memory.old in M.words memory.new ≡ (if is_ok result then words_after_all ws requests.now else ws) }
+    ensures laws { IfOk result (λ rs. Laws (M.words memory.old) requests.now rs.items (M.words memory.new)) }
 {
     let mut given = vec![in heap; Response::Done(false); requests.len()]?;
     for (k, request) in requests.iter().enumerate() {

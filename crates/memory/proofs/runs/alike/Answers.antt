@@ -14,8 +14,8 @@ loop-request-preserved g c =
     let i = c.loop-request.request-index in
     let within = c.loop-request-test.true in
     let inv = c.loop-request.invariant in
-    let did = c.ask-both-same.ensures in (
-      alike-more ws vs ws' vs' qs i within inv.1 inv.2 c.loop-request.same c.ask-both-same.result inv.0 did.answer,
+    let did = c.ask_both-same.ensures in (
+      alike-more ws vs ws' vs' qs i within inv.1 inv.2 c.loop-request.same c.ask_both-same.result inv.0 did.answer,
       words_after-more ws vs qs i within inv.1 _ did.one,
       words_after-more ws' vs' qs i within inv.2 _ did.other,
     )

@@ -23,11 +23,11 @@ returns-in-DropFront g c =
     let r = c.args.ring.now in
     let s = c.args.slots.now in
     let o = c.args.operation in
-    let done = c.drop-front.result in
+    let done = c.drop_front.result in
     record {
-      answers = drop-answers r s o done c.in-DropFront.n c.in-DropFront.is c.drop-front.ensures.answers;
-      holds = either r s o done _ _ c.drop-front.ensures.ring _ _ (λ _. refl) c.drop-front.ensures.holds (ap (after (contents r s)) (sym c.in-DropFront.is));
-      stands = c.drop-front.ensures.stands;
-      kept = refused-ring r s o done _ _ c.drop-front.ensures.ring;
-      empty = drop-refused r s o done c.in-DropFront.n c.drop-front.ensures.answers;
+      answers = drop-answers r s o done c.in-DropFront.n c.in-DropFront.is c.drop_front.ensures.answers;
+      holds = either r s o done _ _ c.drop_front.ensures.ring _ _ (λ _. refl) c.drop_front.ensures.holds (ap (after (contents r s)) (sym c.in-DropFront.is));
+      stands = c.drop_front.ensures.stands;
+      kept = refused-ring r s o done _ _ c.drop_front.ensures.ring;
+      empty = drop-refused r s o done c.in-DropFront.n c.drop_front.ensures.answers;
     }

@@ -4,5 +4,5 @@ use Rattle.memory.proofs.packed.bytes.store.Goals as goal
 
 pub returns : goal.returns
 returns c =
-    let copied = number-of-bytes c.args.x c.copy-from-slice.new.self (omega arith) (c.copy-from-slice.ensures.after ∙ c.to-be-bytes.ensures) in
+    let copied = number-of-bytes c.args.x c.copy_from_slice.new.self (omega arith) (c.copy_from_slice.ensures.after ∙ c.to_be_bytes.ensures) in
     stored _ _ _ _ _ (omega arith) (omega arith) copied.0 copied.1
