@@ -84,7 +84,7 @@ module _ (p : Plan) (t u : Work) (m : ℕ) (passed : Passed t u m) where
   locking-on = let a = found_left Lock in let b = awaited-same in let d = passed.denied in cc
 
   abbrev On : ℕ → Phase → Kind → Type 0
-  On x ph kind = Some x ≡ first_of (left kind) → phase_of p u ph ≡ gone_on p t kind (left kind)
+  On x ph kind = Some x ≡ first_machine (left kind) → phase_of p u ph ≡ gone_on p t kind (left kind)
 
   on : (x : ℕ) (ph : Phase) (kind : Kind) → Some kind ≡ kind_due ph → On x ph kind
   unfolding phase_of
@@ -115,14 +115,14 @@ module _ (p : Plan) (t u : Work) (m : ℕ) (passed : Passed t u m) where
   goes_on kind e = record { phase = ap (phase_of p u) passed.phase ∙ e; next = ap next_of passed.next; reads = passed.reads; writes = passed.writes }
 
   -- some machine is still due a record,
-  pub more_left : (kind : Kind) → Some kind ≡ kind_due t.phase → (x : ℕ) → Some x ≡ first_of (found kind) → Goes u kind
-  more_left kind due x more = goes_on kind (on x t.phase kind due (more ∙ ap first_of (found_left kind)))
+  pub more_left : (kind : Kind) → Some kind ≡ kind_due t.phase → (x : ℕ) → Some x ≡ first_machine (found kind) → Goes u kind
+  more_left kind due x more = goes_on kind (on x t.phase kind due (more ∙ ap first_machine (found_left kind)))
 
   -- or none: locking goes on until all have replied,
   pub locks-sent : (kind : Kind) → Some kind ≡ kind_due t.phase → (kind ≡ Lock) ⊎ (kind ≡ Truncate) → Goes u kind
   locks-sent kind due is = goes_on kind (locks-on t.phase kind is due)
 
-  module _ (kind : Kind) (end : None ≡ first_of (found kind)) (v : Work) where
+  module _ (kind : Kind) (end : None ≡ first_machine (found kind)) (v : Work) where
     at-end : (k : Kind) → kind ≡ k → gone_on p t k [] ≡ gone_on p t kind (left kind)
     at-end k is =
         let none = due-none (is_due p kind (writes_of u)) p.machines u.due end in

@@ -112,7 +112,7 @@ module _ (p : Plan) (w : World) (c : ℕ) (in' : Inside p w c) (e : Coordinator)
   send-closed none = refuses p w (Send c) in' e WrongPhase (λ s. refusals.send-closed p _ c (not-sending p first.work first.work.phase none))
 
   module _ (kind : Kind) (due : Some kind ≡ kind_due first.work.phase) where
-    pub send-nothing : None ≡ first_of (due_to p first.work kind) → Does p w w (Err Nothing) (Send c)
+    pub send-nothing : None ≡ first_machine (due_to p first.work kind) → Does p w w (Err Nothing) (Send c)
     unfolding own
     send-nothing none = refuses p w (Send c) in' e Nothing
         (λ s. refusals.send-nothing p _ c (is-sending p first.work first.work.phase kind due)
@@ -121,7 +121,7 @@ module _ (p : Plan) (w : World) (c : ℕ) (in' : Inside p w c) (e : Coordinator)
     pub due-then : (d : Coordinator) → Some kind ≡ kind_due (get_or w.coordinators c d).work.phase
     due-then d = subst (λ (z : Coordinator). Some kind ≡ kind_due z.work.phase) (same-entry p w c in' e d) due
 
-    module _ (m : ℕ) (lowest : Some m ≡ first_of (due_to p first.work kind)) (below : m < p.machines) where
+    module _ (m : ℕ) (lowest : Some m ≡ first_machine (due_to p first.work kind)) (below : m < p.machines) where
       -- on sound tables the log of a machine that is due a record has a place for it
       pub send-full : room (log_ring p w c m in' below e) p.capacity ≡ false → Does p w w (Err NoRoom) (Send c)
       unfolding own
@@ -135,7 +135,7 @@ module _ (p : Plan) (w : World) (c : ℕ) (in' : Inside p w c) (e : Coordinator)
         then = get_or w.coordinators c d
 
         rest_then : due_to p then.work kind ≡ m ∷ due_from p kind (writes_of then.work) (m + 1)
-        rest_then = due-next _ p.machines then.work.due m (subst (λ (z : Coordinator). Some m ≡ first_of (due_to p z.work kind)) (same-entry p w c in' e d) lowest)
+        rest_then = due-next _ p.machines then.work.due m (subst (λ (z : Coordinator). Some m ≡ first_machine (due_to p z.work kind)) (same-entry p w c in' e d) lowest)
 
         pub sends : (words : (a : ℕ) → Proper (at w.primaries a)) → room (log_ring p w c m in' below e) p.capacity ≡ true
             → (b : ℕ) → b ≡ c * p.machines + m → (r : Ring) (rs : List Record) (entry : Record) → Appended p.capacity b (log_ring p w c m in' below d) r w.records rs entry

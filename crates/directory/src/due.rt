@@ -29,7 +29,7 @@ impl Work {
 
     // The lowest machine that is still due a record of that kind.
     pub(crate) fn machine_due(&self, plan: &Plan, kind: Kind) -> Option<u8>
-        ensures lowest { result ≡ first_of (due_from plan.now kind (writes_of self.now) self.now.due) }
+        ensures lowest { result ≡ first_machine (due_from plan.now kind (writes_of self.now) self.now.due) }
         ensures within { OfPlan plan.now result }
     {
         let count = self.nwrites as usize;

@@ -34,8 +34,8 @@ record First (f : ℕ → Bool) (d k m : ℕ) : Type 0 where
   below : m < d + k
   rest : filter f (counting d k) ≡ m ∷ filter f (counting (m + 1) (d + k - (m + 1)))
 
-first_step : (f : ℕ → Bool) (d k m : ℕ) (t : Bool) → f d ≡ t → Some m ≡ first_of (cond t (d ∷ filter f (counting (suc d) k)) (filter f (counting (suc d) k)))
-    → (Some m ≡ first_of (filter f (counting (suc d) k)) → First f (suc d) k m) → First f d (suc k) m
+first_step : (f : ℕ → Bool) (d k m : ℕ) (t : Bool) → f d ≡ t → Some m ≡ first_machine (cond t (d ∷ filter f (counting (suc d) k)) (filter f (counting (suc d) k)))
+    → (Some m ≡ first_machine (filter f (counting (suc d) k)) → First f (suc d) k m) → First f d (suc k) m
 first_step f d k m true q e later =
     let same : m ≡ d = cc in
     let from : suc d ≡ m + 1 = omega arith in
@@ -61,18 +61,18 @@ first_step f d k m false q e later =
           ∙ ap (λ (n : ℕ). m ∷ filter f (counting (m + 1) n)) size;
     }
 
-first-is : (f : ℕ → Bool) (d k m : ℕ) → Some m ≡ first_of (filter f (counting d k)) → First f d k m
+first-is : (f : ℕ → Bool) (d k m : ℕ) → Some m ≡ first_machine (filter f (counting d k)) → First f d k m
 first-is f d zero m e = let z : ◌≡◌ {A = ℕ} 0 1 = cc in absurd (omega arith)
 first-is f d (suc k) m e = first_step f d k m (f d) refl e (first-is f (suc d) k m)
 
 -- where the lowest is m, the others are those from m + 1 on
-pub due-next : (f : ℕ → Bool) (n d m : ℕ) → Some m ≡ first_of (passing f n d) → passing f n d ≡ m ∷ passing f n (m + 1)
+pub due-next : (f : ℕ → Bool) (n d m : ℕ) → Some m ≡ first_machine (passing f n d) → passing f n d ≡ m ∷ passing f n (m + 1)
 due-next f n d m e =
     let found = first-is f d (n - d) m e in
     let size : d + (n - d) - (m + 1) ≡ n - (m + 1) = omega (arith, found.above, found.below) in
     found.rest ∙ ap (λ (k : ℕ). m ∷ filter f (counting (m + 1) k)) size
 
-pub due-none : (f : ℕ → Bool) (n d : ℕ) → None ≡ first_of (passing f n d) → passing f n d ≡ []
+pub due-none : (f : ℕ → Bool) (n d : ℕ) → None ≡ first_machine (passing f n d) → passing f n d ≡ []
 due-none f n d e = go (passing f n d) e
   where
     go : (ms : List ℕ) → None ≡ first_machine ms → ms ≡ []

@@ -88,7 +88,7 @@ first-holds : {X : Type 0} (P : X → Type 0) (xs : List X) (x : X) (rest : List
 first-holds P xs x rest e h = (subst (All P) e h).0
 
 pub lines_at : (p : Plan) (ns : List Note) (i : ℕ) (x : Record) → NextIs ns i (Some x) → All (λ r. Lines p r.lines) ns → Lines p (note x).lines
-lines_at p ns i x e h = first_of (λ r. Lines p r.lines) (drop i ns) (note x) _ e (All-drop _ i ns h)
+lines_at p ns i x e h = first-holds (λ r. Lines p r.lines) (drop i ns) (note x) _ e (All-drop _ i ns h)
 
 module _ (p : Plan) (m i : ℕ) (log : Ring) (slots : List Record) (f s : Words) where
   -- the memories have the plan's words, and the log is sound

@@ -29,7 +29,7 @@ due_from p kind ws d = filter (is_due p kind ws) (counting d (p.machines - d))
 -- the lowest of them, if there is any
 abbrev pub first_machine : List ℕ → Option ℕ
 first_machine [] = None
-first_of (m ∷ ms) = Some m
+first_machine (m ∷ ms) = Some m
 
 -- a machine that was found is one of the plan's
 abbrev pub OfPlan : Plan → Option ℕ → Type 0

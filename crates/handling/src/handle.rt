@@ -67,7 +67,7 @@ pub fn truncate<F: Memory, S: Memory>(
 
 // A LOCK: all the record's lines are locked for the coordinator, or none.
 fn lock<P: Memory>(plan: &Plan, c: u8, found: &Record, primaries: &mut P) -> Done
-    ensures { HandlesLock plan.now c (note found.now) (words primaries.old) (words primaries.new) result }
+    ensures { HandlesLock plan.now c (note found.now) (P.words primaries.old) (P.words primaries.new) result }
 {
     let lines = found.lines;
     let count = found.count as usize;
@@ -86,8 +86,8 @@ fn install<P: Memory>(
     number: u64,
     primaries: &mut P,
 ) -> usize
-    ensures { let ls = locked_lines number (polled log.now slots.now) in (SoundLog plan.now log.now slots.now → length (words primaries.old) ≡ size plan.now
-        → (words primaries.new ≡ install_lines (words primaries.old) ls) × (result ≡ length ls)) }
+    ensures { let ls = locked_lines number (polled log.now slots.now) in (SoundLog plan.now log.now slots.now → length (P.words primaries.old) ≡ size plan.now
+        → (P.words primaries.new ≡ install_lines (P.words primaries.old) ls) × (result ≡ length ls)) }
 {
     match find_lock(log, slots, number) {
         Some(entry) => {
@@ -108,8 +108,8 @@ fn release<P: Memory>(
     number: u64,
     primaries: &mut P,
 ) -> usize
-    ensures { let ls = locked_lines number (polled log.now slots.now) in (SoundLog plan.now log.now slots.now → length (words primaries.old) ≡ size plan.now → c < 15
-        → (words primaries.new ≡ free_lines (words primaries.old) (held_lines (words primaries.old) (suc c) ls)) × (result ≡ length (held_lines (words primaries.old) (suc c) ls))) }
+    ensures { let ls = locked_lines number (polled log.now slots.now) in (SoundLog plan.now log.now slots.now → length (P.words primaries.old) ≡ size plan.now → c < 15
+        → (P.words primaries.new ≡ free_lines (P.words primaries.old) (held_lines (P.words primaries.old) (suc c) ls)) × (result ≡ length (held_lines (P.words primaries.old) (suc c) ls))) }
 {
     match find_lock(log, slots, number) {
         Some(entry) => {

@@ -16,7 +16,7 @@ use protocol::record::Line;
 
 // The line's word is there, free and at the version read, and the holder is 1 to 15.
 fn can_lock<M: Memory>(memory: &M, line: &Line, holder: u8) -> bool
-    ensures { result ≡ lockable (words memory.now) line.now.address line.now.version holder }
+    ensures { result ≡ lockable (M.words memory.now) line.now.address line.now.version holder }
 {
     let Some((version, held, _)) = memory.look(line.address as usize) else {
         return false;
@@ -26,10 +26,10 @@ fn can_lock<M: Memory>(memory: &M, line: &Line, holder: u8) -> bool
 
 // Locks every line for the holder, or none where one cannot be locked.
 pub fn lock_lines<M: Memory>(memory: &mut M, lines: &[Line], holder: u8) -> bool
-    ensures answers { result ≡ lockable_lines (words memory.old) holder lines.now }
-    ensures after { words memory.new ≡ (if result then lock_lines (words memory.old) holder lines.now else words memory.old) }
-    ensures held { result ≡ true → Held holder lines.now (words memory.old) (words memory.new) }
-    ensures all_fit { All (Fit (length (words memory.old))) lines.now → holds holder ≡ true → result ≡ all_by (is_current (words memory.old)) lines.now }
+    ensures answers { result ≡ lockable_lines (M.words memory.old) holder lines.now }
+    ensures after { M.words memory.new ≡ (if result then lock_lines (M.words memory.old) holder lines.now else M.words memory.old) }
+    ensures held { result ≡ true → Held holder lines.now (M.words memory.old) (M.words memory.new) }
+    ensures all_fit { All (Fit (length (M.words memory.old))) lines.now → holds holder ≡ true → result ≡ all_by (is_current (M.words memory.old)) lines.now }
 {
     for line in lines {
         if !can_lock(memory, line, holder) {
@@ -44,8 +44,8 @@ pub fn lock_lines<M: Memory>(memory: &mut M, lines: &[Line], holder: u8) -> bool
 
 // Puts the line's value at the version after the one read.
 fn install_line<M: Memory>(memory: &mut M, line: &Line) -> bool
-    ensures answers { result ≡ is_fit (length (words memory.old)) line.now }
-    ensures after { words memory.new ≡ (if result then put (words memory.old) line.now.address (line.now.version + 1) line.now.value else words memory.old) }
+    ensures answers { result ≡ is_fit (length (M.words memory.old)) line.now }
+    ensures after { M.words memory.new ≡ (if result then put (M.words memory.old) line.now.address (line.now.version + 1) line.now.value else M.words memory.old) }
 {
     if line.version >= (1 << 60) - 1 {
         return false;
@@ -55,9 +55,9 @@ fn install_line<M: Memory>(memory: &mut M, line: &Line) -> bool
 
 // Installs each line, and counts them.
 pub fn install_lines<M: Memory>(memory: &mut M, lines: &[Line]) -> usize
-    ensures after { words memory.new ≡ install_lines (words memory.old) (fitting (length (words memory.old)) lines.now) }
-    ensures counts { result ≡ length (fitting (length (words memory.old)) lines.now) }
-    ensures all_fit { All (Fit (length (words memory.old))) lines.now → (words memory.new ≡ install_lines (words memory.old) lines.now) × (result ≡ length lines.now) }
+    ensures after { M.words memory.new ≡ install_lines (M.words memory.old) (fitting (length (M.words memory.old)) lines.now) }
+    ensures counts { result ≡ length (fitting (length (M.words memory.old)) lines.now) }
+    ensures all_fit { All (Fit (length (M.words memory.old))) lines.now → (M.words memory.new ≡ install_lines (M.words memory.old) lines.now) × (result ≡ length lines.now) }
 {
     let mut installed = 0;
     for line in lines {
@@ -68,17 +68,17 @@ pub fn install_lines<M: Memory>(memory: &mut M, lines: &[Line]) -> usize
 
 // Frees the line's word where the holder has it.
 fn free_line<M: Memory>(memory: &mut M, line: &Line, holder: u8) -> bool
-    ensures answers { result ≡ freeable (words memory.old) line.now.address holder }
-    ensures after { words memory.new ≡ (if result then hold (words memory.old) 0 line.now.address else words memory.old) }
+    ensures answers { result ≡ freeable (M.words memory.old) line.now.address holder }
+    ensures after { M.words memory.new ≡ (if result then hold (M.words memory.old) 0 line.now.address else M.words memory.old) }
 {
     memory.free(line.address as usize, holder)
 }
 
 // Frees each line's word that the holder has, and counts them.
 pub fn free_lines<M: Memory>(memory: &mut M, lines: &[Line], holder: u8) -> usize
-    ensures after { words memory.new ≡ free_lines (words memory.old) (freed_lines (words memory.old) holder lines.now) }
-    ensures counts { result ≡ length (freed_lines (words memory.old) holder lines.now) }
-    ensures all_fit { All (Fit (length (words memory.old))) lines.now → Apart lines.now → holds holder ≡ true → (words memory.new ≡ free_lines (words memory.old) (held_lines (words memory.old) holder lines.now)) × (result ≡ length (held_lines (words memory.old) holder lines.now)) }
+    ensures after { M.words memory.new ≡ free_lines (M.words memory.old) (freed_lines (M.words memory.old) holder lines.now) }
+    ensures counts { result ≡ length (freed_lines (M.words memory.old) holder lines.now) }
+    ensures all_fit { All (Fit (length (M.words memory.old))) lines.now → Apart lines.now → holds holder ≡ true → (M.words memory.new ≡ free_lines (M.words memory.old) (held_lines (M.words memory.old) holder lines.now)) × (result ≡ length (held_lines (M.words memory.old) holder lines.now)) }
 {
     let mut freed = 0;
     for line in lines {
@@ -89,8 +89,8 @@ pub fn free_lines<M: Memory>(memory: &mut M, lines: &[Line], holder: u8) -> usiz
 
 // Puts the line into a backup where it is newer than the word there.
 fn renew_line<M: Memory>(memory: &mut M, line: &Line) -> bool
-    ensures answers { result ≡ (is_fit (length (words memory.old)) line.now && is_newer (words memory.old) line.now) }
-    ensures after { words memory.new ≡ (if is_fit (length (words memory.old)) line.now then renew (words memory.old) line.now else words memory.old) }
+    ensures answers { result ≡ (is_fit (length (M.words memory.old)) line.now && is_newer (M.words memory.old) line.now) }
+    ensures after { M.words memory.new ≡ (if is_fit (length (M.words memory.old)) line.now then renew (M.words memory.old) line.now else M.words memory.old) }
 {
     let Some((version, _, _)) = memory.look(line.address as usize) else {
         return false;

@@ -21,7 +21,7 @@ fn is_due(plan: &Plan, kind: Kind, m: u8, lines: &[Line]) -> bool
 
 // The lowest machine from `from` on that a record of that kind is due to.
 pub fn next_due(plan: &Plan, kind: Kind, from: u8, lines: &[Line]) -> Option<u8>
-    ensures lowest { result ≡ first_of (due_from plan.now kind lines.now from) }
+    ensures lowest { result ≡ first_machine (due_from plan.now kind lines.now from) }
     ensures within { OfPlan plan.now result }
 {
     for m in from..plan.machines {

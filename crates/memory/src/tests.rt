@@ -33,7 +33,7 @@ fn follows_rules<M: Memory>(rt: &impl Abort, heap: Global, memory: &mut M) -> Re
         Response::Done(true),
         Response::Shown(None),
     ];
-    assert!(rt; run(heap, memory, &REQUESTS)?.as_slice() == &expected);
+    assert!(rt; run(heap, memory, &REQUESTS)?.as_slice() == expected.as_slice());
     Ok(())
 }
 
@@ -55,7 +55,7 @@ fn bytes_are_big_endian(rt: HostRuntime) -> Result<(), Fail> {
     let bytes = memory.into_bytes();
     assert_eq!(rt;
         bytes.as_slice(),
-        &[0xf0, 0, 0, 0, 0, 0, 1, 2, 0, 0, 0, 0, 0, 0, 3, 4]
+        [0xf0, 0, 0, 0, 0, 0, 1, 2, 0, 0, 0, 0, 0, 0, 3, 4].as_slice()
     );
     let Ok(memory) = Packed::from_bytes(bytes) else {
         return Err(Fail::new("16 bytes refused"));

@@ -13,6 +13,6 @@ returns-in-CommitBackup g c =
     (fitting_backup c.args.plan.now c.args.m (length (g.F.Memory.words c.args.firsts.now)) (length (g.S.Memory.words c.args.seconds.now)) (take (c.args.entry.now.count - 0) c.args.entry.now.lines))
     c.back_up_lines.ensures.after c.back_up_lines.ensures.all_fit
 
-pub returns-in-default : goal.returns-in-default
-returns-in-default g c =
-    backs-up-none c.args.plan.now c.args.m c.args.entry.now (g.F.Memory.words c.args.firsts.now) (g.S.Memory.words c.args.seconds.now) c.in-default.not-CommitBackup
+pub returns-in_default : goal.returns-in_default
+returns-in_default g c =
+    backs-up-none c.args.plan.now c.args.m c.args.entry.now (g.F.Memory.words c.args.firsts.now) (g.S.Memory.words c.args.seconds.now) c.in_default.not-CommitBackup

@@ -8,5 +8,5 @@ returns-in-Some g c = λ s long few.
     let found = c.in-Some.ensures s.stands in
     released c.args.plan.now c.in-Some.entry _ (omega arith) (g.P.Memory.words c.args.primaries.now) (g.P.Memory.words c.free_lines.new.memory) c.free_lines.result
     _ (lines-found c.args.plan.now c.args.log.now c.args.slots.now c.args.number c.in-Some.entry s found)
-    c.args.c c.saturating-add.result c.saturating-add.ensures few
+    c.args.c c.saturating_add.result c.saturating_add.ensures few
     c.free_lines.ensures.all_fit (found-fit c.args.plan.now c.args.log.now c.args.slots.now c.args.number c.in-Some.entry s found) long

@@ -14,17 +14,17 @@ loop-i-init g c = λ s a b. backed-none _ _ _ _ _
 pub loop-i-preserved : goal.loop-i-preserved
 loop-i-preserved g c = λ s a b.
     let before = c.loop-i.invariant s a b in
-    let exact : c.saturating-add-puts.result ≡ c.loop-i.puts + c.back-up-record.result =
-    omega (arith, c.saturating-add-puts.ensures, before.few, c.back-up-record.ensures.few, c.loop-i-test.true, s.stands.cursor, s.stands.len, s.few) in
+    let exact : c.saturating_add-puts.result ≡ c.loop-i.puts + c.back_up_record.result =
+    omega (arith, c.saturating_add-puts.ensures, before.few, c.back_up_record.ensures.few, c.loop-i-test.true, s.stands.cursor, s.stands.len, s.few) in
     subst
     (λ (n : ℕ). BackedUp c.args.plan.now c.args.m (c.loop-i.i + 1) (notes c.args.log.now c.args.slots.now) (g.F.Memory.words c.args.firsts.now) (g.S.Memory.words c.args.seconds.now)
-    (g.F.Memory.words c.back-up-record.new.firsts) (g.S.Memory.words c.back-up-record.new.seconds) n)
+    (g.F.Memory.words c.back_up_record.new.firsts) (g.S.Memory.words c.back_up_record.new.seconds) n)
     (sym exact)
-    (backed-more c.args.plan.now c.args.m c.loop-i.i c.args.log.now c.args.slots.now _ _ c.in-Some.entry _ _ _ _ _ _ (c.in-Some.ensures s.stands) (s, a, b) before c.back-up-record.ensures)
+    (backed-more c.args.plan.now c.args.m c.loop-i.i c.args.log.now c.args.slots.now _ _ c.in-Some.entry _ _ _ _ _ _ (c.in-Some.ensures s.stands) (s, a, b) before c.back_up_record.ensures)
 
-pub returns-in-default : goal.returns-in-default
-returns-in-default g c = λ s a b.
-    absurd (peek-there c.args.log.now c.args.slots.now c.loop-i.i s.stands (omega (arith, c.loop-i-test.true, s.stands.cursor)) (c.in-default.ensures s.stands))
+pub returns-in_default : goal.returns-in_default
+returns-in_default g c = λ s a b.
+    absurd (peek-there c.args.log.now c.args.slots.now c.loop-i.i s.stands (omega (arith, c.loop-i-test.true, s.stands.cursor)) (c.in_default.ensures s.stands))
 
 pub returns : goal.returns
 returns g c = λ s a b.

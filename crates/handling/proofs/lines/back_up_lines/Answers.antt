@@ -5,8 +5,8 @@ use Rattle.handling.proofs.lines.back_up_lines.Goals as goal
 pub loop-line-preserved : goal.loop-line-preserved
 loop-line-preserved g c = (
   search rules,
-  left-more c.args.plan.now c.args.m _ _ _ (g.F.Memory.words c.loop-line.firsts) (g.S.Memory.words c.loop-line.seconds) _ _ c.loop-line.puts c.args.lines.now c.loop-line.line-index _ c.back-up-line.result
-      c.loop-line-test.true c.back-up-line.ensures c.loop-line.invariant.1,
+  left-more c.args.plan.now c.args.m _ _ _ (g.F.Memory.words c.loop-line.firsts) (g.S.Memory.words c.loop-line.seconds) _ _ c.loop-line.puts c.args.lines.now c.loop-line.line-index _ c.back_up_line.result
+      c.loop-line-test.true c.back_up_line.ensures c.loop-line.invariant.1,
 )
 
 pub returns : goal.returns

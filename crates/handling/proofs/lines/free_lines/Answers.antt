@@ -5,8 +5,8 @@ use Rattle.handling.proofs.lines.free_lines.Goals as goal
 pub loop-line-preserved : goal.loop-line-preserved
 loop-line-preserved g c = (
   search rules,
-  left-more c.args.holder _ _ (g.M.Memory.words c.loop-line.memory) _ c.loop-line.freed c.args.lines.now c.loop-line.line-index _ c.free-line.result
-      c.loop-line-test.true c.free-line.ensures.answers c.free-line.ensures.after c.loop-line.invariant.1,
+  left-more c.args.holder _ _ (g.M.Memory.words c.loop-line.memory) _ c.loop-line.freed c.args.lines.now c.loop-line.line-index _ c.free_line.result
+      c.loop-line-test.true c.free_line.ensures.answers c.free_line.ensures.after c.loop-line.invariant.1,
 )
 
 pub returns : goal.returns

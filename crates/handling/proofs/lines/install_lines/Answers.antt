@@ -5,8 +5,8 @@ use Rattle.handling.proofs.lines.install_lines.Goals as goal
 pub loop-line-preserved : goal.loop-line-preserved
 loop-line-preserved g c = (
   search rules,
-  left-more _ _ _ (g.M.Memory.words c.loop-line.memory) _ c.loop-line.installed c.args.lines.now c.loop-line.line-index _ c.install-line.result
-      c.loop-line-test.true c.install-line.ensures.answers c.install-line.ensures.after c.loop-line.invariant.1,
+  left-more _ _ _ (g.M.Memory.words c.loop-line.memory) _ c.loop-line.installed c.args.lines.now c.loop-line.line-index _ c.install_line.result
+      c.loop-line-test.true c.install_line.ensures.answers c.install_line.ensures.after c.loop-line.invariant.1,
 )
 
 pub returns : goal.returns

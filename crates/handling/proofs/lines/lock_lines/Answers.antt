@@ -5,10 +5,10 @@ use Rattle.handling.specs.Fitting.{lockable_lines}
 use Rattle.handling.proofs.Locking.{left-all, left-more, left-none, lock-holds, lockable-fit}
 use Rattle.handling.proofs.lines.lock_lines.Goals as goal
 
-pub returns-then-not-can-lock : goal.returns-then-not-can-lock
-returns-then-not-can-lock g c =
+pub returns-then-not-can_lock : goal.returns-then-not-can_lock
+returns-then-not-can_lock g c =
     let ws = g.M.Memory.words c.args.memory.now in
-    let fails = sym (all-fails _ c.args.lines.now c.loop-line.line-index _ c.loop-line-test.true (sym c.if-not-can-lock.ensures)) in
+    let fails = sym (all-fails _ c.args.lines.now c.loop-line.line-index _ c.loop-line-test.true (sym c.if-not-can_lock.ensures)) in
     record { answers = fails; after = search rules; held = search rules; all_fit = λ fit ok. fails ∙ lockable-fit c.args.holder ws c.args.lines.now fit ok }
 
 pub loop-line-preserved : goal.loop-line-preserved

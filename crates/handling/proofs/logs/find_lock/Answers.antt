@@ -7,15 +7,15 @@ use Rattle.handling.proofs.Peeks.{peek-there}
 use Rattle.handling.proofs.Newest.{newest-found, newest-earlier}
 use Rattle.handling.proofs.logs.find_lock.Goals as goal
 
-pub returns-in-default : goal.returns-in-default
-returns-in-default c = λ s. absurd (peek-there c.args.log.now c.args.slots.now _ s (omega (arith, s.cursor)) (c.in-default.ensures s))
+pub returns-in_default : goal.returns-in_default
+returns-in_default c = λ s. absurd (peek-there c.args.log.now c.args.slots.now _ s (omega (arith, s.cursor)) (c.in_default.ensures s))
 
-pub returns-then-is-lock-of : goal.returns-then-is-lock-of
-returns-then-is-lock-of c = λ s.
-    sym (newest-found (is_lock_of c.args.number) (notes c.args.log.now c.args.slots.now) c.loop-i.i (note c.in-Some.entry) _ c.loop-i-test.true (c.in-Some.ensures s) (sym c.if-is-lock-of.ensures))
+pub returns-then-is_lock_of : goal.returns-then-is_lock_of
+returns-then-is_lock_of c = λ s.
+    sym (newest-found (is_lock_of c.args.number) (notes c.args.log.now c.args.slots.now) c.loop-i.i (note c.in-Some.entry) _ c.loop-i-test.true (c.in-Some.ensures s) (sym c.if-is_lock_of.ensures))
     ∙ c.loop-i.invariant s
 
 pub loop-i-preserved : goal.loop-i-preserved
 loop-i-preserved c = λ s.
-    newest-earlier (is_lock_of c.args.number) (notes c.args.log.now c.args.slots.now) c.loop-i.i (note c.in-Some.entry) _ c.loop-i-test.true (c.in-Some.ensures s) (sym c.if-is-lock-of.ensures)
+    newest-earlier (is_lock_of c.args.number) (notes c.args.log.now c.args.slots.now) c.loop-i.i (note c.in-Some.entry) _ c.loop-i-test.true (c.in-Some.ensures s) (sym c.if-is_lock_of.ensures)
     ∙ c.loop-i.invariant s

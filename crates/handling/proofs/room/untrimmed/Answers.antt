@@ -9,11 +9,11 @@ use Rattle.handling.proofs.room.untrimmed.Goals as goal
 pub returns-then-log-eq0 : goal.returns-then-log-eq0
 returns-then-log-eq0 c = λ s. sym (untrimmed-none (notes c.args.log.now c.args.slots.now) (omega (arith, length-notes c.args.log.now c.args.slots.now s)))
 
-pub returns-in-default : goal.returns-in-default
-returns-in-default c = λ s. absurd (peek-there c.args.log.now c.args.slots.now _ s (omega arith) (c.in-default.ensures s))
+pub returns-in_default : goal.returns-in_default
+returns-in_default c = λ s. absurd (peek-there c.args.log.now c.args.slots.now _ s (omega arith) (c.in_default.ensures s))
 
 pub returns : goal.returns
 returns c = λ s.
-    ap not c.is-truncate.ensures
+    ap not c.is_truncate.ensures
     ∙ sym (untrimmed-last (notes c.args.log.now c.args.slots.now) c.args.log.now.len (note c.in-Some.last) _
     (length-notes c.args.log.now c.args.slots.now s) (omega arith) (c.in-Some.ensures s))

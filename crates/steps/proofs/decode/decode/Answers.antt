@@ -9,4 +9,4 @@ returns c =
     let place = c.args.place in
     let content = c.args.content.now in
     let is : Ok c.in-Some.step ≡ decoded place content = search rules in
-    record { step = is; encodes-back = encodes-back place content c.in-Some.step (λ i. (c.type-inv.content i).fits) (sym is) }
+    record { step = is; encodes_back = encodes-back place content c.in-Some.step (λ i. (c.type_inv.content i).fits) (sym is) }

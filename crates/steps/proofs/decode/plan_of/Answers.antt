@@ -9,5 +9,5 @@ pub returns : goal.returns
 unfolding plan
 returns c =
     let whole : length c.args.e.now ≡ 21 + 3 * get_or c.args.e.now 3 0 = omega arith in
-    ap Some (same-plan _ _ _ _ _ _ _ _ _ _ _ _ c.eight_bytes.ensures c.eight-bytes-2.ensures c.homes_of.ensures)
+    ap Some (same-plan _ _ _ _ _ _ _ _ _ _ _ _ c.eight_bytes.ensures c.eight_bytes-2.ensures c.homes_of.ensures)
     ∙ sym (cond-true _ _ _ (eq-eqb _ _ whole))

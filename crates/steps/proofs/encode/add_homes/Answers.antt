@@ -17,8 +17,8 @@ one_more was all hs i l e =
 
 pub loop-home-preserved : goal.loop-home-preserved
 loop-home-preserved c =
-    one_more (vec_items c.args.out.now) (vec_items c.extend-from-slice.new.self) c.args.homes.now c.loop-home.home-index c.loop-home-test.true
-    (pushed _ c.loop-home.invariant c.in-ok-extend-from-slice.was c.extend-from-slice.ensures.items)
+    one_more (vec_items c.args.out.now) (vec_items c.extend_from_slice.new.self) c.args.homes.now c.loop-home.home-index c.loop-home-test.true
+    (pushed _ c.loop-home.invariant c.in_ok-extend_from_slice.was c.extend_from_slice.ensures.items)
 
 pub returns : goal.returns
 returns c =

@@ -7,14 +7,14 @@ use Rattle.steps.proofs.encode.encode.Goals as goal
 
 pub returns-in-SetUp : goal.returns-in-SetUp
 returns-in-SetUp c =
-    let r = c.encode-plan.result in
+    let r = c.encode_plan.result in
     let is : IfOk r (λ v. vec_items v ≡ encoded c.args.step.now) =
-    subst (λ (s : Step). IfOk r (λ v. vec_items v ≡ encoded s)) (sym c.in-SetUp.is) c.encode-plan.ensures in
-    record { bytes = is; decodes-back = made-decodes vec_items r c.args.step.now is }
+    subst (λ (s : Step). IfOk r (λ v. vec_items v ≡ encoded s)) (sym c.in-SetUp.is) c.encode_plan.ensures in
+    record { bytes = is; decodes_back = made-decodes vec_items r c.args.step.now is }
 
 pub returns-in-Call : goal.returns-in-Call
 returns-in-Call c =
-    let r = c.encode-call.result in
+    let r = c.encode_call.result in
     let is : IfOk r (λ v. vec_items v ≡ encoded c.args.step.now) =
-    subst (λ (s : Step). IfOk r (λ v. vec_items v ≡ encoded s)) (sym c.in-Call.is) c.encode-call.ensures in
-    record { bytes = is; decodes-back = made-decodes vec_items r c.args.step.now is }
+    subst (λ (s : Step). IfOk r (λ v. vec_items v ≡ encoded s)) (sym c.in-Call.is) c.encode_call.ensures in
+    record { bytes = is; decodes_back = made-decodes vec_items r c.args.step.now is }

@@ -8,6 +8,6 @@ use Rattle.steps.proofs.encode.encode_write.Goals as goal
 pub returns : goal.returns
 returns c =
     let front = 3 ∷ c.args.coordinator ∷ big_endian 2 c.args.address in
-    let first : vec_items c.in-ok-out.out ≡ front = search rules in
-    let all = pushed c.to-be-bytes-2.result first c.in-ok-extend-from-slice.was c.extend-from-slice.ensures.items in
-    all ∙ ap (λ xs. front ++ xs) (c.to-be-bytes-2.ensures ∙ sym (eight-digits c.args.value))
+    let first : vec_items c.in_ok-out.out ≡ front = search rules in
+    let all = pushed c.to_be_bytes-2.result first c.in_ok-extend_from_slice.was c.extend_from_slice.ensures.items in
+    all ∙ ap (λ xs. front ++ xs) (c.to_be_bytes-2.ensures ∙ sym (eight-digits c.args.value))

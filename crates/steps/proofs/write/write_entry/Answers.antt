@@ -10,9 +10,9 @@ returns c =
     let entry = c.args.entry.now in
     let was = vec_items c.args.out.now in
     let size : c.in-Ok.size ≡ length entry = omega (arith, c.in-Ok.ensures) in
-    let bytes = c.to-be-bytes.result in
-    let first = pushed bytes c.reserve.ensures.items c.in-ok-extend-from-slice.was c.extend-from-slice.ensures.items in
-    let both = pushed entry first c.in-ok-extend-from-slice-2.was c.extend-from-slice-2.ensures.items in (
+    let bytes = c.to_be_bytes.result in
+    let first = pushed bytes c.reserve.ensures.items c.in_ok-extend_from_slice.was c.extend_from_slice.ensures.items in
+    let both = pushed entry first c.in_ok-extend_from_slice-2.was c.extend_from_slice-2.ensures.items in (
       omega (arith, c.in-Ok.ensures),
-      both ∙ append_assoc was bytes entry ∙ ap (λ xs. was ++ (xs ++ entry)) (c.to-be-bytes.ensures ∙ ap (big_endian 2) size),
+      both ∙ append_assoc was bytes entry ∙ ap (λ xs. was ++ (xs ++ entry)) (c.to_be_bytes.ensures ∙ ap (big_endian 2) size),
     )

@@ -12,6 +12,6 @@ returns c =
     let begun : opened bytes ≡ Ok (at bytes 1) = search rules in
     record {
       position = search rules;
-      lossless = lossless bytes (at bytes 1) (All-from_get_or (λ d. d < 256) bytes 0 (λ i _. (c.type-inv.bytes i).fits)) begun;
-      reads-back = reads-back bytes (at bytes 1) begun;
+      lossless = lossless bytes (at bytes 1) (All-from_get_or (λ d. d < 256) bytes 0 (λ i _. (c.type_inv.bytes i).fits)) begun;
+      reads_back = reads-back bytes (at bytes 1) begun;
     }
