@@ -15,7 +15,7 @@ use protocol::record::{Line, Record, Reply};
 
 // Whether the word of a line is free, whoever asks, and has the version read; nothing where there is no such word.
 fn is_current<M: Memory>(memory: &M, line: Line) -> Option<bool>
-    ensures { result ≡ (if there (words memory.now) line.address then Some (is_current (words memory.now) line) else None) }
+    ensures { result ≡ (if there (M.words memory.now) line.address then Some (is_current (M.words memory.now) line) else None) }
 {
     let Some((version, holder, _)) = memory.look(line.address as usize) else {
         return None;

@@ -58,7 +58,7 @@ fn fill(coordinators: &mut [Coordinator], value: Coordinator)
 // Puts the version and the value 0 into every word.
 fn reset<M: Memory>(memory: &mut M, version: u64)
     requires { version < 2 ^ 60 }
-    ensures { words memory.new ≡ replicate (length (words memory.old)) (word version 0 0) }
+    ensures { M.words memory.new ≡ replicate (length (M.words memory.old)) (word version 0 0) }
 {
     let n = memory.size();
     for address in 0..n {

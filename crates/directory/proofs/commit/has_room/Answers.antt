@@ -6,22 +6,22 @@ use Rattle.directory.specs.Commits.{roomy_at}
 use Rattle.directory.proofs.Rooms.{room-end, roomy-told}
 use Rattle.directory.proofs.commit.has_room.Goals as goal
 
-pub slice-bounds-has-place-end : goal.slice-bounds-has-place-end
-slice-bounds-has-place-end c =
+pub slice_bounds-has_place-end : goal.slice_bounds-has_place-end
+slice_bounds-has_place-end c =
     let end = room-end c.args.plan.now c.args.c c.args.own.now c.args.records.now c.requires.machines c.requires.c c.requires.records c.loop-m.m (omega arith) in search rules
 
-pub returns-then-not-has-place : goal.returns-then-not-has-place
-returns-then-not-has-place c = λ s.
+pub returns-then-not-has_place : goal.returns-then-not-has_place
+returns-then-not-has_place c = λ s.
     test-fails (roomy_at c.args.plan.now c.args.c c.args.own.now c.args.records.now) c.loop-m.m _ _ (omega arith)
     (sym (roomy-told c.args.plan.now c.args.c c.args.own.now c.args.records.now c.requires.machines c.requires.c c.requires.records c.loop-m.m (omega arith) _ (omega arith) _ _
-    (c.to-write-n.ensures.is ∙ ap (λ (n : ℕ). wanted c.args.plan.now (take n c.args.own.now.work.writes) c.loop-m.m) (omega arith)) c.if-not-has-place.ensures s))
+    (c.to_write-n.ensures.is ∙ ap (λ (n : ℕ). wanted c.args.plan.now (take n c.args.own.now.work.writes) c.loop-m.m) (omega arith)) c.if-not-has_place.ensures s))
     (c.loop-m.invariant s)
 
 pub loop-m-preserved : goal.loop-m-preserved
 loop-m-preserved c = λ s.
     test-more (roomy_at c.args.plan.now c.args.c c.args.own.now c.args.records.now) c.loop-m.m _ _ (omega arith)
     (sym (roomy-told c.args.plan.now c.args.c c.args.own.now c.args.records.now c.requires.machines c.requires.c c.requires.records c.loop-m.m (omega arith) _ (omega arith) _ _
-    (c.to-write-n.ensures.is ∙ ap (λ (n : ℕ). wanted c.args.plan.now (take n c.args.own.now.work.writes) c.loop-m.m) (omega arith)) c.if-not-has-place.ensures s))
+    (c.to_write-n.ensures.is ∙ ap (λ (n : ℕ). wanted c.args.plan.now (take n c.args.own.now.work.writes) c.loop-m.m) (omega arith)) c.if-not-has_place.ensures s))
     (c.loop-m.invariant s)
 
 pub returns : goal.returns

@@ -10,8 +10,8 @@ returns-in-Lock c = record {
   after = appended c.args.queue.now c.args.slots.now c.args.number c.args.granted c.args.kind _ _ _ c.append.ensures.answers c.in-Lock.is c.append.ensures.holds;
 }
 
-pub returns-in-default : goal.returns-in-default
-returns-in-default c = record {
+pub returns-in_default : goal.returns-in_default
+returns-in_default c = record {
   stands = λ s. s;
-  after = unreplied c.args.queue.now c.args.slots.now c.args.number c.args.granted c.args.kind c.in-default.not-Lock;
+  after = unreplied c.args.queue.now c.args.slots.now c.args.number c.args.granted c.args.kind c.in_default.not-Lock;
 }

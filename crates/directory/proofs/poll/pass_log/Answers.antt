@@ -5,15 +5,15 @@ use Rattle.directory.proofs.poll.pass_log.Goals as goal
 
 pub returns-in-Truncate : goal.returns-in-Truncate
 returns-in-Truncate c = record {
-  stands = c.drop-front.ensures.stands;
+  stands = c.drop_front.ensures.stands;
   after = λ s x here.
-      dropped c.args.log.now c.args.slots.now c.args.kind s x here c.in-Truncate.is c.saturating-add-n.result
-      (omega (arith, c.saturating-add-n.ensures, more c.args.log.now c.args.slots.now c.args.kind s x here, s.len))
-      _ _ c.drop-front.ensures.answers c.drop-front.ensures.ring c.drop-front.ensures.holds;
+      dropped c.args.log.now c.args.slots.now c.args.kind s x here c.in-Truncate.is c.saturating_add-n.result
+      (omega (arith, c.saturating_add-n.ensures, more c.args.log.now c.args.slots.now c.args.kind s x here, s.len))
+      _ _ c.drop_front.ensures.answers c.drop_front.ensures.ring c.drop_front.ensures.holds;
 }
 
-pub returns-in-default : goal.returns-in-default
-returns-in-default c = record {
+pub returns-in_default : goal.returns-in_default
+returns-in_default c = record {
   stands = c.advance.ensures.stands _;
-  after = λ s x here. advanced c.args.log.now c.args.slots.now c.args.kind s x here c.in-default.not-Truncate _ _ c.advance.ensures.answers c.advance.ensures.ring;
+  after = λ s x here. advanced c.args.log.now c.args.slots.now c.args.kind s x here c.in_default.not-Truncate _ _ c.advance.ensures.answers c.advance.ensures.ring;
 }

@@ -7,48 +7,48 @@ use Rattle.directory.proofs.Logging.{within-table, room-again}
 use Rattle.directory.proofs.Sending.{send-closed, send-nothing, send-full, due-then, sends}
 use Rattle.directory.proofs.send.send.Goals as goal
 
-pub returns-in-err-admit : goal.returns-in-err-admit
-returns-in-err-admit g c = handed-on _ (world _ _ _ _ _ _) _ _ _ c.from-residual.ensures.1 c.in-err-admit.ensures.answers
+pub returns-in_err-admit : goal.returns-in_err-admit
+returns-in_err-admit g c = handed-on _ (world _ _ _ _ _ _) _ _ _ c.from_residual.ensures.1 c.in_err-admit.ensures.answers
 
-pub returns-in-default : goal.returns-in-default
-returns-in-default g c = send-closed _ (world _ _ _ _ _ _) _ (inside _ (world _ _ _ _ _ _) _ c.in-ok-admit.ensures.answers) c.index-coordinators-c.result c.in-default.ensures
+pub returns-in_default : goal.returns-in_default
+returns-in_default g c = send-closed _ (world _ _ _ _ _ _) _ (inside _ (world _ _ _ _ _ _) _ c.in_ok-admit.ensures.answers) c.index-coordinators-c.result c.in_default.ensures
 
-pub returns-in-default-machine-due : goal.returns-in-default-machine-due
-returns-in-default-machine-due g c =
-    send-nothing _ (world _ _ _ _ _ _) _ (inside _ (world _ _ _ _ _ _) _ c.in-ok-admit.ensures.answers) c.index-coordinators-c.result
-    _ c.in-Some.ensures c.in-default-machine-due.ensures.lowest
+pub returns-in_default-machine_due : goal.returns-in_default-machine_due
+returns-in_default-machine_due g c =
+    send-nothing _ (world _ _ _ _ _ _) _ (inside _ (world _ _ _ _ _ _) _ c.in_ok-admit.ensures.answers) c.index-coordinators-c.result
+    _ c.in-Some.ensures c.in_default-machine_due.ensures.lowest
 
 pub bounds-own-m : goal.bounds-own-m
-bounds-own-m g c = below-five _ (world _ _ _ _ _ _) _ _ (inside _ (world _ _ _ _ _ _) _ c.in-ok-admit.ensures.answers) c.in-Some-machine-due.ensures.within
+bounds-own-m g c = below-five _ (world _ _ _ _ _ _) _ _ (inside _ (world _ _ _ _ _ _) _ c.in_ok-admit.ensures.answers) c.in-Some-machine_due.ensures.within
 
-pub returns-in-default-has-room : goal.returns-in-default-has-room
-returns-in-default-has-room g c =
-    send-full _ (world _ _ _ _ _ _) _ (inside _ (world _ _ _ _ _ _) _ c.in-ok-admit.ensures.answers) c.index-coordinators-c.result
-    _ c.in-Some.ensures _ c.in-Some-machine-due.ensures.lowest c.in-Some-machine-due.ensures.within (sym c.in-default-has-room.ensures)
+pub returns-in_default-has_room : goal.returns-in_default-has_room
+returns-in_default-has_room g c =
+    send-full _ (world _ _ _ _ _ _) _ (inside _ (world _ _ _ _ _ _) _ c.in_ok-admit.ensures.answers) c.index-coordinators-c.result
+    _ c.in-Some.ensures _ c.in-Some-machine_due.ensures.lowest c.in-Some-machine_due.ensures.within (sym c.in_default-has_room.ensures)
 
 pub bounds-own-m-2 : goal.bounds-own-m-2
-bounds-own-m-2 g c = below-five _ (world _ _ _ _ _ _) _ _ (inside _ (world _ _ _ _ _ _) _ c.in-ok-admit.ensures.answers) c.in-Some-machine-due.ensures.within
+bounds-own-m-2 g c = below-five _ (world _ _ _ _ _ _) _ _ (inside _ (world _ _ _ _ _ _) _ c.in_ok-admit.ensures.answers) c.in-Some-machine_due.ensures.within
 
-pub append-in-requires : goal.append-in-requires
-append-in-requires g c = record {
+pub append_in-requires : goal.append_in-requires
+append_in-requires g c = record {
   within =
-      within-table _ (world _ _ _ _ _ _) _ _ (inside _ (world _ _ _ _ _ _) _ c.in-ok-admit.ensures.answers) c.in-Some-machine-due.ensures.within _ c.block-of-block.ensures;
+      within-table _ (world _ _ _ _ _ _) _ _ (inside _ (world _ _ _ _ _ _) _ c.in_ok-admit.ensures.answers) c.in-Some-machine_due.ensures.within _ c.block_of-block.ensures;
   room =
-      room-again _ (world _ _ _ _ _ _) _ _ (inside _ (world _ _ _ _ _ _) _ c.in-ok-admit.ensures.answers) c.in-Some-machine-due.ensures.within c.index-coordinators-c.result c.index-coordinators-c-2.result
+      room-again _ (world _ _ _ _ _ _) _ _ (inside _ (world _ _ _ _ _ _) _ c.in_ok-admit.ensures.answers) c.in-Some-machine_due.ensures.within c.index-coordinators-c.result c.index-coordinators-c-2.result
       (sym c.in-true.ensures);
 }
 
-pub go-on-outcome-requires : goal.go-on-outcome-requires
-go-on-outcome-requires g c = record {
+pub go_on-outcome-requires : goal.go_on-outcome-requires
+go_on-outcome-requires g c = record {
   due =
-      due-then _ (world _ _ _ _ _ _) _ (inside _ (world _ _ _ _ _ _) _ c.in-ok-admit.ensures.answers) c.index-coordinators-c.result _ c.in-Some.ensures c.index-coordinators-c-2.result;
-  below = below-five _ (world _ _ _ _ _ _) _ _ (inside _ (world _ _ _ _ _ _) _ c.in-ok-admit.ensures.answers) c.in-Some-machine-due.ensures.within;
+      due-then _ (world _ _ _ _ _ _) _ (inside _ (world _ _ _ _ _ _) _ c.in_ok-admit.ensures.answers) c.index-coordinators-c.result _ c.in-Some.ensures c.index-coordinators-c-2.result;
+  below = below-five _ (world _ _ _ _ _ _) _ _ (inside _ (world _ _ _ _ _ _) _ c.in_ok-admit.ensures.answers) c.in-Some-machine_due.ensures.within;
 }
 
 pub returns : goal.returns
 returns g c =
-    sends _ (world _ _ _ _ _ _) _ (inside _ (world _ _ _ _ _ _) _ c.in-ok-admit.ensures.answers) c.index-coordinators-c.result
-    _ c.in-Some.ensures _ c.in-Some-machine-due.ensures.lowest c.in-Some-machine-due.ensures.within
+    sends _ (world _ _ _ _ _ _) _ (inside _ (world _ _ _ _ _ _) _ c.in_ok-admit.ensures.answers) c.index-coordinators-c.result
+    _ c.in-Some.ensures _ c.in-Some-machine_due.ensures.lowest c.in-Some-machine_due.ensures.within
     c.index-coordinators-c-2.result (g.met.P.Memory.proper c.args.primaries.now) (sym c.in-true.ensures)
-    _ c.block-of-block.ensures _ _ _ c.append-in.ensures c.record-due-sent.ensures
-    _ c.go-on-outcome.ensures.stands _ c.kind-number.ensures _ c.go-on-outcome.ensures.reports
+    _ c.block_of-block.ensures _ _ _ c.append_in.ensures c.record_due-sent.ensures
+    _ c.go_on-outcome.ensures.stands _ c.kind_number.ensures _ c.go_on-outcome.ensures.reports

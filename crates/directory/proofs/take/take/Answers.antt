@@ -7,36 +7,36 @@ use Rattle.directory.proofs.Pairs.{queue-end}
 use Rattle.directory.proofs.Taking.{take_beyond, take-closed, take-nothing, takes-reply}
 use Rattle.directory.proofs.take.take.Goals as goal
 
-pub returns-in-err-admit : goal.returns-in-err-admit
-returns-in-err-admit g c = handed-on _ (world _ _ _ _ _ _) _ _ _ c.from-residual.ensures.1 c.in-err-admit.ensures.answers
+pub returns-in_err-admit : goal.returns-in_err-admit
+returns-in_err-admit g c = handed-on _ (world _ _ _ _ _ _) _ _ _ c.from_residual.ensures.1 c.in_err-admit.ensures.answers
 
-pub returns-in-default : goal.returns-in-default
-returns-in-default g c = take_beyond _ (world _ _ _ _ _ _) _ _ (inside _ (world _ _ _ _ _ _) _ c.in-ok-admit.ensures.answers) (search rules)
+pub returns-in_default : goal.returns-in_default
+returns-in_default g c = take_beyond _ (world _ _ _ _ _ _) _ _ (inside _ (world _ _ _ _ _ _) _ c.in_ok-admit.ensures.answers) (search rules)
 
-pub returns-in-default-phase : goal.returns-in-default-phase
-returns-in-default-phase g c =
-    take-closed _ (world _ _ _ _ _ _) _ _ (inside _ (world _ _ _ _ _ _) _ c.in-ok-admit.ensures.answers) c.in-true.is c.index-coordinators-c.result c.in-default-phase.not-Locking
+pub returns-in_default-phase : goal.returns-in_default-phase
+returns-in_default-phase g c =
+    take-closed _ (world _ _ _ _ _ _) _ _ (inside _ (world _ _ _ _ _ _) _ c.in_ok-admit.ensures.answers) c.in-true.is c.index-coordinators-c.result c.in_default-phase.not-Locking
 
-pub slice-bounds-slots-end : goal.slice-bounds-slots-end
-slice-bounds-slots-end g c =
+pub slice_bounds-slots-end : goal.slice_bounds-slots-end
+slice_bounds-slots-end g c =
     let w : World = world c.args.coordinators.now c.args.records.now c.args.replies.now (g.P.Memory.words c.args.primaries.now) (g.F.Memory.words c.args.firsts.now) (g.S.Memory.words c.args.seconds.now) in
-    let end = queue-end c.args.plan.now w c.args.c c.args.m (inside c.args.plan.now w c.args.c c.in-ok-admit.ensures.answers) c.in-true.is in search rules
+    let end = queue-end c.args.plan.now w c.args.c c.args.m (inside c.args.plan.now w c.args.c c.in_ok-admit.ensures.answers) c.in-true.is in search rules
 
 pub bounds-own-m : goal.bounds-own-m
-bounds-own-m g c = omega (arith, c.in-true.is, (sizes-of _ (inside _ (world _ _ _ _ _ _) _ c.in-ok-admit.ensures.answers).fine).machines.1)
+bounds-own-m g c = omega (arith, c.in-true.is, (sizes-of _ (inside _ (world _ _ _ _ _ _) _ c.in_ok-admit.ensures.answers).fine).machines.1)
 
-pub returns-in-default-peek : goal.returns-in-default-peek
-returns-in-default-peek g c =
-    take-nothing _ (world _ _ _ _ _ _) _ _ (inside _ (world _ _ _ _ _ _) _ c.in-ok-admit.ensures.answers) c.in-true.is c.index-coordinators-c.result c.in-Locking.is c.in-default-peek.ensures.answers
+pub returns-in_default-peek : goal.returns-in_default-peek
+returns-in_default-peek g c =
+    take-nothing _ (world _ _ _ _ _ _) _ _ (inside _ (world _ _ _ _ _ _) _ c.in_ok-admit.ensures.answers) c.in-true.is c.index-coordinators-c.result c.in-Locking.is c.in_default-peek.ensures.answers
 
 pub bounds-own-m-2 : goal.bounds-own-m-2
-bounds-own-m-2 g c = omega (arith, c.in-true.is, (sizes-of _ (inside _ (world _ _ _ _ _ _) _ c.in-ok-admit.ensures.answers).fine).machines.1)
+bounds-own-m-2 g c = omega (arith, c.in-true.is, (sizes-of _ (inside _ (world _ _ _ _ _ _) _ c.in_ok-admit.ensures.answers).fine).machines.1)
 
-pub note-reply-outcome-requires : goal.note-reply-outcome-requires
-note-reply-outcome-requires g c = record { machine = c.in-true.is; few = (sizes-of _ (inside _ (world _ _ _ _ _ _) _ c.in-ok-admit.ensures.answers).fine).machines.1 }
+pub note_reply-outcome-requires : goal.note_reply-outcome-requires
+note_reply-outcome-requires g c = record { machine = c.in-true.is; few = (sizes-of _ (inside _ (world _ _ _ _ _ _) _ c.in_ok-admit.ensures.answers).fine).machines.1 }
 
 pub returns : goal.returns
 returns g c =
-    takes-reply _ (world _ _ _ _ _ _) _ _ (inside _ (world _ _ _ _ _ _) _ c.in-ok-admit.ensures.answers) c.in-true.is c.index-coordinators-c.result c.in-Locking.is
+    takes-reply _ (world _ _ _ _ _ _) _ _ (inside _ (world _ _ _ _ _ _) _ c.in_ok-admit.ensures.answers) c.in-true.is c.index-coordinators-c.result c.in-Locking.is
     (g.met.P.Memory.proper c.args.primaries.now) c.index-coordinators-c-2.result _ c.in-Some.ensures.answers (c.in-Some.ensures.stands refl)
-    c.drop-front.result c.drop-front.new.self (search rules) (search rules) _ _ c.note-reply-outcome.ensures _ (search rules)
+    c.drop_front.result c.drop_front.new.self (search rules) (search rules) _ _ c.note_reply-outcome.ensures _ (search rules)

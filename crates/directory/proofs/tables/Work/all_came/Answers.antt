@@ -4,4 +4,4 @@ use Rattle.directory.proofs.Progressing.{none-awaited}
 use Rattle.directory.proofs.tables.Work.all_came.Goals as goal
 
 pub returns : goal.returns
-returns c = c.all-down.ensures ∙ sym (none-awaited c.args.plan.now c.args.self.now _ (omega arith) (omega (arith, c.requires)))
+returns c = c.all_down.ensures ∙ sym (none-awaited c.args.plan.now c.args.self.now _ (omega arith) (omega (arith, c.requires)))

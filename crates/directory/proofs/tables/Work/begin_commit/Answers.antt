@@ -6,6 +6,6 @@ use Rattle.directory.proofs.tables.Work.begin_commit.Goals as goal
 
 pub returns : goal.returns
 returns c = λ few.
-    begins c.args.plan.now few c.args.self.now _ c.first-phase-self.ensures refl refl refl refl refl
-    (c.locked-machines-awaited.ensures ∙ ap (λ (n : ℕ). five (is_at_primary c.args.plan.now (take n c.args.self.now.writes))) (omega arith))
+    begins c.args.plan.now few c.args.self.now _ c.first_phase-self.ensures refl refl refl refl refl
+    (c.locked_machines-awaited.ensures ∙ ap (λ (n : ℕ). five (is_at_primary c.args.plan.now (take n c.args.self.now.writes))) (omega arith))
     c.args.next refl

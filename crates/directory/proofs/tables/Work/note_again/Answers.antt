@@ -9,5 +9,5 @@ returns c = record {
   phase = refl;
   next = refl;
   reads = refl;
-  writes = ap (take c.args.self.now.nwrites) c.revalue-all.ensures ∙ take-map (revalued c.args.address c.args.value) c.args.self.now.nwrites c.args.self.now.writes;
+  writes = ap (take c.args.self.now.nwrites) c.revalue_all.ensures ∙ take-map (revalued c.args.address c.args.value) c.args.self.now.nwrites c.args.self.now.writes;
 }

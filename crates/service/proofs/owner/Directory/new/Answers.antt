@@ -8,16 +8,16 @@ use Rattle.service.proofs.Fitting.{Long, not-set_up, is-set_up}
 use Rattle.service.proofs.Lending.{held-last, lent}
 use Rattle.service.proofs.owner.Directory.new.Goals as goal
 
-pub returns-then-not-plan-ok : goal.returns-then-not-plan-ok
-returns-then-not-plan-ok g c = (refl, refl, refl, stops BadPlan _ _ (sym c.if-not-plan-ok.ensures))
+pub returns-then-not-plan_ok : goal.returns-then-not-plan_ok
+returns-then-not-plan_ok g c = (refl, refl, refl, stops BadPlan _ _ (sym c.if-not-plan_ok.ensures))
 
-pub returns-in-Ok-set-up : goal.returns-in-Ok-set-up
-returns-in-Ok-set-up g c =
+pub returns-in-Ok-set_up : goal.returns-in-Ok-set_up
+returns-in-Ok-set_up g c =
     let fit = c.in-Ok.ensures in
     let was : World = world c.deref-mut.result.now c.deref.result.now c.deref-2.result.now (g.P.Memory.words c.args.primaries) (g.F.Memory.words c.args.firsts) (g.S.Memory.words c.args.seconds) in
     let after : World = world c.set_up.new.coordinators c.deref.result.now c.deref-2.result.now (g.P.Memory.words c.set_up.new.primaries) (g.F.Memory.words c.set_up.new.firsts) (g.S.Memory.words c.set_up.new.seconds) in
     let long : Long c.args.plan was = record { coordinators = ap length c.deref-mut.ensures.value ∙ fit.coordinators; records = ap length c.deref.ensures.value ∙ fit.records; replies = ap length c.deref-2.ensures.value ∙ fit.replies } in
-    let done = c.in-Ok-set-up.ensures in (
+    let done = c.in-Ok-set_up.ensures in (
       refl,
       is-set_up c.args.plan was after long _ done,
       lent (λ _ w. Ready c.args.plan w) [] [] _ _ [] [] _ _ [] [] _ _ [] [] [] _ _ _ refl (held-last c.set_up.new.coordinators _ _ (c.set_up.auto.coordinators ∙ c.deref-mut.ensures.len))
