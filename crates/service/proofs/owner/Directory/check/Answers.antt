@@ -9,7 +9,7 @@ pub returns : goal.returns
 returns g c = record {
   does =
       lent (λ u v. Does c.args.self.now.plan u v c.check.result (Check c.args.c)) _ _ _ _ _ _ _ _ _ _ _ _ _ _ _ _ _ _
-      c.deref-mut.ensures.value (held-last c.check.new.coordinators _ _ (c.check.auto.coordinators ∙ c.deref-mut.ensures.len))
+      c.deref_mut.ensures.value (held-last c.check.new.coordinators _ _ (c.check.auto.coordinators ∙ c.deref_mut.ensures.len))
       c.deref.ensures.value c.deref.ensures.value c.deref-2.ensures.value c.deref-2.ensures.value c.check.ensures;
   plan = refl;
 }

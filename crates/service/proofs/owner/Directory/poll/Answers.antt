@@ -9,7 +9,7 @@ pub returns : goal.returns
 returns g c = record {
   does =
       lent (λ u v. Does c.args.self.now.plan u v c.poll.result (Poll c.args.c c.args.m)) _ _ _ _ _ _ _ _ _ _ _ _ _ _ _ _ _ _
-      c.deref-mut.ensures.value (held-last c.poll.new.coordinators _ _ (c.poll.auto.coordinators ∙ c.deref-mut.ensures.len))
-      c.deref.ensures.value c.deref.ensures.value c.deref-mut-2.ensures.value (held-last c.poll.new.replies _ _ (c.poll.auto.replies ∙ c.deref-mut-2.ensures.len)) c.poll.ensures;
+      c.deref_mut.ensures.value (held-last c.poll.new.coordinators _ _ (c.poll.auto.coordinators ∙ c.deref_mut.ensures.len))
+      c.deref.ensures.value c.deref.ensures.value c.deref_mut-2.ensures.value (held-last c.poll.new.replies _ _ (c.poll.auto.replies ∙ c.deref_mut-2.ensures.len)) c.poll.ensures;
   plan = refl;
 }

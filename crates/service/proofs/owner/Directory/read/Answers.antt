@@ -9,7 +9,7 @@ pub returns : goal.returns
 returns g c = record {
   does =
       lent (λ u v. Does c.args.self.now.plan u v c.read.result (Read c.args.c c.args.address)) _ _ _ _ _ _ _ _ _ _ _ _ _ _ _ _ _ _
-      c.deref-mut.ensures.value (held-last c.read.new.coordinators _ _ (c.read.auto.coordinators ∙ c.deref-mut.ensures.len))
+      c.deref_mut.ensures.value (held-last c.read.new.coordinators _ _ (c.read.auto.coordinators ∙ c.deref_mut.ensures.len))
       c.deref.ensures.value c.deref.ensures.value c.deref-2.ensures.value c.deref-2.ensures.value c.read.ensures;
   plan = refl;
 }

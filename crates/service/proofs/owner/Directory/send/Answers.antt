@@ -9,7 +9,7 @@ pub returns : goal.returns
 returns g c = record {
   does =
       lent (λ u v. Does c.args.self.now.plan u v c.send.result (Send c.args.c)) _ _ _ _ _ _ _ _ _ _ _ _ _ _ _ _ _ _
-      c.deref-mut.ensures.value (held-last c.send.new.coordinators _ _ (c.send.auto.coordinators ∙ c.deref-mut.ensures.len))
-      c.deref-mut-2.ensures.value (held-last c.send.new.records _ _ (c.send.auto.records ∙ c.deref-mut-2.ensures.len)) c.deref.ensures.value c.deref.ensures.value c.send.ensures;
+      c.deref_mut.ensures.value (held-last c.send.new.coordinators _ _ (c.send.auto.coordinators ∙ c.deref_mut.ensures.len))
+      c.deref_mut-2.ensures.value (held-last c.send.new.records _ _ (c.send.auto.records ∙ c.deref_mut-2.ensures.len)) c.deref.ensures.value c.deref.ensures.value c.send.ensures;
   plan = refl;
 }

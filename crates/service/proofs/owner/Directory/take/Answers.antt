@@ -9,7 +9,7 @@ pub returns : goal.returns
 returns g c = record {
   does =
       lent (λ u v. Does c.args.self.now.plan u v c.take.result (Take c.args.c c.args.m)) _ _ _ _ _ _ _ _ _ _ _ _ _ _ _ _ _ _
-      c.deref-mut.ensures.value (held-last c.take.new.coordinators _ _ (c.take.auto.coordinators ∙ c.deref-mut.ensures.len))
+      c.deref_mut.ensures.value (held-last c.take.new.coordinators _ _ (c.take.auto.coordinators ∙ c.deref_mut.ensures.len))
       c.deref.ensures.value c.deref.ensures.value c.deref-2.ensures.value c.deref-2.ensures.value c.take.ensures;
   plan = refl;
 }
