@@ -1,4 +1,6 @@
 // Plays every step file that its list names, and compares the lines with those that stand beside it.
+#![tactic(auto)]
+
 use playback::transcript::transcript;
 use std::{fs, io};
 

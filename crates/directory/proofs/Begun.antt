@@ -1,5 +1,5 @@
 -- The transaction as its commit begins.
-use Rattle.std.proofs.Common.{◌≡◌, ℕ, zero, suc, ◌+◌, ◌-◌, ◌<◌, ◌≤◌, Bool, true, false, cond, eqb, List, [], ◌∷◌, length, get_or, drop, Option, sym, refl, ap, ◌∙◌, arith}
+use Rattle.std.proofs.Common.{◌≡◌, ℕ, zero, suc, ◌-◌, ◌<◌, ◌≤◌, Bool, true, false, cond, eqb, List, [], ◌∷◌, length, get_or, drop, Option, sym, refl, ap, ◌∙◌, arith}
 use Rattle.std.proofs.lemmas.Bool.{eqb-true}
 use Rattle.protocol.specs.declared.plan.Plan.{Plan}
 use Rattle.protocol.specs.declared.record.Line.{Line}
@@ -10,7 +10,6 @@ use Rattle.protocol.specs.Coordinator as protocol
 use Rattle.protocol.proofs.Begins.{phase_by-counts}
 use Rattle.protocol.proofs.Counting.{filter_same}
 use Rattle.directory.specs.declared.tables.Work.{Work}
-use Rattle.directory.specs.declared.tables.Phase.{Phase}
 use Rattle.directory.specs.declared.tables.Phase.TheVariants.{Idle, Checking, Locking}
 use Rattle.directory.specs.View.{phase_of, next_of, reads_of, writes_of, due_from, awaited_of}
 use Rattle.directory.specs.Commits.{phase_by}

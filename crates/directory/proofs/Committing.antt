@@ -1,5 +1,5 @@
 -- What commit does on each way out.
-use Rattle.std.proofs.Common.{◌≡◌, ℕ, suc, ◌*◌, ◌^◌, ◌<◌, ◌≤◌, Bool, true, false, List, length, get_or, set, Some, None, Ok, Err, Option, sym, refl, ap, ◌∙◌, subst, arith}
+use Rattle.std.proofs.Common.{◌≡◌, ℕ, suc, ◌*◌, ◌^◌, ◌<◌, ◌≤◌, Bool, true, false, length, get_or, set, Some, None, Ok, Err, sym, ap, ◌∙◌, subst, arith}
 use Rattle.std.proofs.lemmas.Bool.{ltb-true}
 use Rattle.memory.specs.Words.{at, Proper}
 use Rattle.protocol.specs.declared.plan.Plan.{Plan}
@@ -8,7 +8,6 @@ use Rattle.protocol.specs.declared.call.Outcome.{Outcome}
 use Rattle.protocol.specs.declared.call.Refusal.TheVariants.{WrongPhase, UsedUp, NoRoom}
 use Rattle.protocol.specs.Lists.{all_by}
 use Rattle.protocol.specs.Plan.{machine_list}
-use Rattle.protocol.specs.Coordinator as protocol
 use Rattle.protocol.specs.Room.{is_roomy}
 use Rattle.protocol.specs.Call.{answered}
 use Rattle.protocol.specs.Commit.{begin, first_phase, first_outcome}
@@ -25,7 +24,7 @@ use Rattle.directory.specs.Work.{StandsFor}
 use Rattle.directory.specs.Calls.{Does}
 use Rattle.directory.specs.Commits.{roomy_at, outcome_by}
 use Rattle.directory.proofs.Plans.{Sizes, sizes-of, fits-of}
-use Rattle.directory.proofs.Doing.{Inside, here, refuses, rings-of}
+use Rattle.directory.proofs.Doing.{Inside, refuses, rings-of}
 use Rattle.directory.proofs.Working.{is_open, not-open, as-open, count-reads, count-writes, with_work, own_left, work-changes, same-entry}
 use Rattle.directory.proofs.Rooms.{room-is}
 

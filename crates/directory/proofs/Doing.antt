@@ -1,6 +1,5 @@
 -- What a call does behind the checks that come first: it is refused, or its coordinator is changed.
-use Rattle.std.proofs.Common.{◌≡◌, ℕ, ◌<◌, ◌≤◌, Bool, true, false, cond, ltb, List, get_or, set, IsErrAnd, Ok, Err, Result, sym, refl, ap, ◌∙◌, subst, ⊎_elim, arith}
-use Rattle.std.proofs.lemmas.List.{drop-set-lt}
+use Rattle.std.proofs.Common.{◌≡◌, ℕ, ◌<◌, Bool, true, false, cond, ltb, List, get_or, set, IsErrAnd, Ok, Err, Result, sym, refl, ap, ◌∙◌, subst, ⊎_elim, arith}
 use Rattle.std.proofs.lemmas.Bool.{ltb-true, cases_eq}
 use Rattle.protocol.specs.declared.plan.Plan.{Plan}
 use Rattle.protocol.specs.declared.call.Call.{Call}
@@ -15,14 +14,14 @@ use Rattle.protocol.specs.Plan.{is_fine}
 use Rattle.protocol.specs.Lines.{Words}
 use Rattle.protocol.specs.Coordinator as protocol
 use Rattle.protocol.specs.Coordinator.{new_coordinator}
-use Rattle.protocol.specs.State.{State, state, Local, local, local_at, with_local}
+use Rattle.protocol.specs.State.{State, state, Local, local, local_at}
 use Rattle.protocol.specs.Call.{Accepted, coordinator_of}
-use Rattle.protocol.specs.Step.{Stepped, stepped, settle, step, step_behind_checks, local_call}
+use Rattle.protocol.specs.Step.{stepped, settle, step_behind_checks, local_call}
 use Rattle.protocol.specs.Kept.{Invariant, ProperWords}
 use Rattle.protocol.proofs.Functions.{upd_same, upd_other, upd-own}
 use Rattle.protocol.proofs.Keeps.{calls-keep}
 use Rattle.directory.specs.declared.tables.Coordinator.{Coordinator}
-use Rattle.directory.specs.View.{World, world, view, own, owns, is_fitting}
+use Rattle.directory.specs.View.{World, world, view, own, is_fitting}
 use Rattle.directory.specs.Sound.{Sound, Rings}
 use Rattle.directory.specs.Checks.{admitted}
 use Rattle.directory.specs.Calls.{Does, RestStays}

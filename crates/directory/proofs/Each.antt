@@ -1,5 +1,5 @@
 -- What holds of each element of a list, and a list as a function of the index.
-use Rattle.std.proofs.Common.{◌≡◌, ℕ, zero, suc, ◌+◌, List, [], ◌∷◌, get_or, replicate, refl}
+use Rattle.std.proofs.Common.{◌≡◌, ℕ, zero, suc, ◌+◌, List, get_or, replicate, refl}
 use Rattle.std.specs.List.{AllByRecursion as All}
 use Rattle.ring.specs.Rings.{mapi}
 

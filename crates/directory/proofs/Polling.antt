@@ -1,5 +1,5 @@
 -- What poll does on each way out.
-use Rattle.std.proofs.Common.{◌≡◌, ℕ, suc, ◌+◌, ◌*◌, ◌<◌, ◌≤◌, Bool, true, false, cond, List, [], ◌∷◌, ◌++◌, reverse, length, get_or, take, drop, set, Some, None, Ok, Err, Option, sym, refl, ap, ◌∙◌, subst, arith}
+use Rattle.std.proofs.Common.{◌≡◌, ℕ, suc, ◌+◌, ◌*◌, ◌<◌, ◌≤◌, Bool, true, false, cond, List, [], ◌∷◌, reverse, length, get_or, drop, set, Some, Ok, Err, sym, refl, ap, ◌∙◌, subst, arith}
 use borrow.Rule.Slice.PartMut.{put_mid}
 use Rattle.std.specs.List.{AllByRecursion as All}
 use Rattle.std.proofs.ByRecursion.{All-append}
@@ -8,12 +8,10 @@ use Rattle.std.proofs.lemmas.Bool.{ltb-true}
 use Rattle.ring.specs.declared.Ring.{Ring}
 use Rattle.ring.specs.Contents.{contents}
 use Rattle.ring.specs.Contents as ring
-use Rattle.ring.specs.Rings.{block}
 use Rattle.ring.proofs.Rings.{no_ring}
 use Rattle.ring.proofs.Rotated.{length-contents}
 use Rattle.memory.specs.Words.{at, Proper}
 use Rattle.protocol.specs.declared.plan.Plan.{Plan}
-use Rattle.protocol.specs.declared.record.Line.{Line}
 use Rattle.protocol.specs.declared.record.Kind.{Kind}
 use Rattle.protocol.specs.declared.record.Kind.TheVariants.{Lock, CommitBackup, CommitPrimary, Abort, Truncate}
 use Rattle.protocol.specs.declared.record.Record.{Record}
@@ -30,18 +28,18 @@ use Rattle.protocol.specs.Coordinator.{log, queue}
 use Rattle.protocol.specs.State.{Local, local}
 use Rattle.protocol.specs.Call.{Accepted, answered}
 use Rattle.protocol.specs.Step.{local_call}
-use Rattle.protocol.specs.Kept.{Invariant, Lines, ProperWords}
+use Rattle.protocol.specs.Kept.{Invariant, Lines}
 use Rattle.protocol.proofs.Functions.{upd-own}
 use Rattle.protocol.proofs.Moves.{Next, locks, denies, keeps-backup, installs, frees, truncates}
 use Rattle.protocol.proofs.Accepts.{accepts}
 use Rattle.protocol.proofs.Refusals as refusals
 use Rattle.protocol.proofs.Places.{one-reply, next-lines}
 use Rattle.handling.specs.Notes.{notes, polled, NextIs}
-use Rattle.handling.specs.Handling.{Effect, effect, handled, SoundLog, Ready}
+use Rattle.handling.specs.Handling.{Effect, effect, handled, Ready}
 use Rattle.handling.proofs.Handles.{all-reverse}
 use Rattle.directory.specs.declared.tables.Coordinator.{Coordinator}
 use Rattle.directory.specs.View.{World, world, own, log_of, logs_of, queues_of}
-use Rattle.directory.specs.Sound.{Sound, Rings}
+use Rattle.directory.specs.Sound.{Sound}
 use Rattle.directory.specs.Polls.{passed_log, replied}
 use Rattle.directory.specs.Calls.{Does}
 use Rattle.directory.proofs.Plans.{Sizes, sizes-of, fits-of}

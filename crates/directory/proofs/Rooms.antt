@@ -1,5 +1,5 @@
 -- Room in a coordinator's logs, by its rings.
-use Rattle.std.proofs.Common.{◌≡◌, ℕ, zero, suc, ◌+◌, ◌*◌, ◌<◌, ◌≤◌, Bool, true, false, leb, List, [], ◌∷◌, ◌++◌, reverse, length, get_or, take, drop, sym, refl, ap, ◌∙◌, subst, arith}
+use Rattle.std.proofs.Common.{◌≡◌, ℕ, ◌+◌, ◌*◌, ◌<◌, ◌≤◌, Bool, leb, List, ◌++◌, length, get_or, take, drop, sym, ap, ◌∙◌, subst, arith}
 use Rattle.std.proofs.ByRecursion.{All-get_or}
 use Rattle.std.proofs.lemmas.List.{take-append-drop, reverse-reverse}
 use Rattle.ring.specs.declared.Ring.{Ring}
@@ -9,13 +9,13 @@ use Rattle.ring.proofs.Rings.{block-end, length-block}
 use Rattle.protocol.specs.declared.plan.Plan.{Plan}
 use Rattle.protocol.specs.declared.record.Record.{Record}
 use Rattle.protocol.specs.declared.record.Reply.{Reply}
-use Rattle.protocol.specs.Lists.{all_by, counting}
+use Rattle.protocol.specs.Lists.{all_by}
 use Rattle.protocol.specs.Plan.{machine_list}
 use Rattle.protocol.specs.Record.{Note, empty_log, records}
 use Rattle.protocol.specs.Coordinator as protocol
 use Rattle.protocol.specs.Coordinator.{log}
 use Rattle.protocol.specs.Room.{with_trim, kept, is_roomy}
-use Rattle.protocol.specs.Commit.{begin, first_phase}
+use Rattle.protocol.specs.Commit.{begin}
 use Rattle.protocol.proofs.Counting.{all_same}
 use Rattle.protocol.proofs.Places.{begun-todo}
 use Rattle.handling.specs.Notes.{notes}

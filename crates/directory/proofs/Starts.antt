@@ -1,5 +1,5 @@
 -- Fresh coordinators stand for the protocol's start.
-use Rattle.std.proofs.Common.{◌≡◌, ℕ, zero, suc, ◌+◌, ◌*◌, ◌<◌, ◌≤◌, Bool, true, false, List, [], ◌∷◌, reverse, length, get_or, take, drop, replicate, sym, refl, ap, ◌∙◌, subst, arith}
+use Rattle.std.proofs.Common.{◌≡◌, ℕ, zero, suc, ◌+◌, ◌*◌, ◌≤◌, List, [], length, get_or, take, replicate, sym, refl, ap, ◌∙◌, subst, arith}
 use Rattle.std.specs.List.{AllByRecursion as All}
 use Rattle.std.proofs.lemmas.List.{take-replicate}
 use Rattle.ring.specs.declared.Ring.{Ring}
@@ -9,19 +9,17 @@ use Rattle.ring.specs.Rings.{mapi, row, block}
 use Rattle.protocol.specs.declared.plan.Plan.{Plan}
 use Rattle.protocol.specs.declared.record.Record.{Record}
 use Rattle.protocol.specs.declared.record.Reply.{Reply}
-use Rattle.protocol.specs.declared.record.Line.{Line}
 use Rattle.protocol.specs.Record.{Log, empty_log}
 use Rattle.protocol.specs.Lines.{Words}
 use Rattle.protocol.specs.Coordinator as protocol
 use Rattle.protocol.specs.Coordinator.{new_coordinator}
-use Rattle.protocol.specs.State.{start, start_words, state}
+use Rattle.protocol.specs.State.{start_words}
 use Rattle.protocol.specs.Kept.{Invariant}
 use Rattle.protocol.proofs.Functions.{pointwise}
 use Rattle.protocol.proofs.Keeps.{new-invariant}
-use Rattle.directory.specs.declared.tables.Phase.{Phase}
 use Rattle.directory.specs.declared.tables.Coordinator.{Coordinator}
-use Rattle.directory.specs.View.{World, world, phase_of, next_of, log_of, logs_of, queues_of, own, owns, view, reads_of, writes_of}
-use Rattle.directory.specs.Sound.{Sound, Rings}
+use Rattle.directory.specs.View.{world, phase_of, next_of, log_of, logs_of, queues_of, own, owns, reads_of, writes_of}
+use Rattle.directory.specs.Sound.{Rings}
 use Rattle.directory.specs.Calls.{Ready}
 use Rattle.directory.specs.Fresh.{Fresh, empty_ring}
 use Rattle.directory.proofs.Plans.{Sizes}

@@ -1,33 +1,26 @@
 -- What open, read, write and abandon do on each way out.
-use Rattle.std.proofs.Common.{◌≡◌, ℕ, ◌-◌, ◌^◌, ◌<◌, ◌≤◌, Bool, true, false, cond, List, [], length, get_or, take, set, Some, None, Ok, Err, Option, sym, refl, ap, ◌∙◌, subst, arith}
-use Rattle.std.proofs.lemmas.List.{drop-set-lt, length-take, get_or_default}
-use Rattle.std.proofs.lemmas.Bool.{lt-ltb, ltb-true}
+use Rattle.std.proofs.Common.{◌≡◌, ℕ, ◌-◌, ◌^◌, ◌<◌, ◌≤◌, Bool, true, false, cond, List, [], length, get_or, set, Some, None, Ok, Err, Option, sym, ap, ◌∙◌, subst, arith}
+use Rattle.std.proofs.lemmas.Bool.{lt-ltb}
 use Rattle.memory.specs.Words.{at, there, look_at, Proper}
 use Rattle.protocol.specs.declared.plan.Plan.{Plan}
 use Rattle.protocol.specs.declared.record.Line.{Line}
-use Rattle.protocol.specs.declared.call.Call.{Call}
 use Rattle.protocol.specs.declared.call.Call.TheVariants.{Open, Read, Write, Abandon}
 use Rattle.protocol.specs.declared.call.Refusal.TheVariants.{WrongPhase, NoAddress, TooMany, NotRead, UsedUp}
-use Rattle.protocol.specs.declared.call.Outcome.{Outcome}
 use Rattle.protocol.specs.declared.call.Outcome.TheVariants.{Going, Aborted}
 use Rattle.protocol.specs.Lists.{snoc}
 use Rattle.protocol.specs.Plan.{size}
 use Rattle.protocol.specs.Lines.{Words, line}
 use Rattle.protocol.specs.Coordinator as protocol
 use Rattle.protocol.specs.Coordinator.{is_idle, is_opened, line_at}
-use Rattle.protocol.specs.State.{Local, local}
-use Rattle.protocol.specs.Call.{Accepted, answered, coordinator_of}
+use Rattle.protocol.specs.Call.{answered}
 use Rattle.protocol.specs.Transact.{seen, value_of, rewrite}
 use Rattle.protocol.specs.Step.{local_call}
-use Rattle.protocol.specs.Kept.{ProperWords}
 use Rattle.protocol.proofs.Transacts as protocol-calls
-use Rattle.directory.specs.declared.tables.Phase.{Phase}
 use Rattle.directory.specs.declared.tables.Phase.TheVariants as tables
 use Rattle.directory.specs.declared.tables.Work.{Work}
 use Rattle.directory.specs.declared.tables.Coordinator.{Coordinator}
 use Rattle.directory.specs.View.{World, world, own, phase_of, next_of, reads_of, writes_of}
 use Rattle.directory.specs.Work.{Leaves}
-use Rattle.directory.specs.Sound.{Sound, Rings}
 use Rattle.directory.specs.Calls.{Does}
 use Rattle.directory.proofs.Plans.{fits-of}
 use Rattle.directory.proofs.Doing.{Inside, here, refuses, only-answers}

@@ -1,5 +1,5 @@
 -- What set-up and the calls promise.
-use Rattle.std.specs.Prelude.{◌≡◌, ℕ, ◌*◌, drop, IfOk, IfErr, Ok, Err, Result}
+use Rattle.std.specs.Prelude.{◌≡◌, ℕ, ◌*◌, drop, IfOk, IfErr, Err, Result}
 use Rattle.protocol.specs.declared.plan.Plan.{Plan}
 use Rattle.protocol.specs.declared.call.Call.{Call}
 use Rattle.protocol.specs.declared.call.Answer.{Answer}

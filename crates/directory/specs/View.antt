@@ -1,5 +1,5 @@
 -- The lent tables and memories, and the protocol's state that they stand for.
-use Rattle.std.specs.Prelude.{ℕ, ◌-◌, ◌*◌, ◌^◌, Bool, false, ◌&&◌, List, [], ◌∷◌, reverse, length, get_or, take, drop, Some, None, Option, ◌==◌, nat_le, slice_index_or}
+use Rattle.std.specs.Prelude.{ℕ, ◌-◌, ◌*◌, ◌^◌, Bool, false, ◌&&◌, List, [], reverse, length, get_or, take, drop, Some, None, Option, ◌==◌, nat_le, slice_index_or}
 use Rattle.ring.specs.declared.Ring.{Ring}
 use Rattle.ring.specs.Contents.{contents}
 use Rattle.ring.specs.Rings.{mapi, row}

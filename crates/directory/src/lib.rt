@@ -1,4 +1,6 @@
 // The directory: set-up and the ten calls, over tables and memories that the caller lends.
+#![tactic(auto)]
+
 pub mod check;
 pub mod checks;
 pub mod commit;

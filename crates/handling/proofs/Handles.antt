@@ -1,9 +1,9 @@
 -- What the lines of a record do, as the functions on lines ensure it of the part that was lent to them.
-use Rattle.std.proofs.Common.{◌≡◌, ℕ, suc, ◌+◌, ◌^◌, ◌<◌, ◌≤◌, min, Bool, true, false, cond, ltb, List, [], ◌∷◌, ◌++◌, reverse, length, take, Some, None, Option, sym, refl, ap, ◌∙◌, subst, arith}
+use Rattle.std.proofs.Common.{◌≡◌, ℕ, suc, ◌+◌, ◌^◌, ◌<◌, min, Bool, true, false, cond, List, [], ◌∷◌, reverse, length, take, Some, None, sym, refl, ap, ◌∙◌, subst, arith}
 use Rattle.std.specs.List.{AllByRecursion as All}
 use Rattle.std.proofs.ByRecursion.{All-append, All-take}
 use Rattle.std.proofs.lemmas.List.{length-take, reverse-append}
-use Rattle.std.proofs.lemmas.Bool.{and_from, lt-ltb, cond-true, cond-false}
+use Rattle.std.proofs.lemmas.Bool.{and_from, lt-ltb}
 use Rattle.ring.specs.declared.Ring.{Ring}
 use Rattle.memory.specs.Words.{holds}
 use Rattle.protocol.specs.declared.plan.Plan.{Plan}
@@ -12,12 +12,12 @@ use Rattle.protocol.specs.declared.record.Record.{Record}
 use Rattle.protocol.specs.Lists.{all_by, find}
 use Rattle.protocol.specs.Plan.{size}
 use Rattle.protocol.specs.Lines.{Words, is_current, lock_lines, install_lines, held_lines, free_lines}
-use Rattle.protocol.specs.Record.{Note, note}
+use Rattle.protocol.specs.Record.{note}
 use Rattle.protocol.specs.Poll.{is_lock_of, lines_of, locked_lines}
 use Rattle.protocol.specs.Kept.{Lines, Apart}
 use Rattle.handling.specs.Fitting.{Fit}
 use Rattle.handling.specs.Notes.{notes, polled}
-use Rattle.handling.specs.Handling.{Effect, effect, SoundLog, HandlesLock}
+use Rattle.handling.specs.Handling.{effect, SoundLog, HandlesLock}
 
 module _ {X : Type 0} (P : X → Type 0) where
   pub all-reverse : (xs : List X) → All P xs → All P (reverse xs)

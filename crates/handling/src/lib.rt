@@ -1,4 +1,6 @@
 // What a machine does with a record, and what a coordinator sends it.
+#![tactic(auto)]
+
 pub mod handle;
 pub mod lines;
 pub mod logs;

@@ -1,4 +1,6 @@
 // A house on three memories of different makes: one word is changed by a list of calls, and read again.
+#![tactic(auto)]
+
 use memory::cells::Cells;
 use memory::joined::Joined;
 use memory::packed::Packed;

@@ -1,4 +1,6 @@
 // Memories of versioned words: one contract, three makes, and what holds of every make.
+#![tactic(auto)]
+
 pub mod cells;
 pub mod interface;
 pub mod joined;

@@ -1,5 +1,5 @@
 -- A call goes past a check that holds, and stops at one that does not.
-use Rattle.std.proofs.Common.{◌≡◌, Bool, true, false, Some, None, Ok, Err, Option, sym, refl, ap}
+use Rattle.std.proofs.Common.{◌≡◌, Bool, true, false, Some, None, Ok, Err, Option, ap}
 use Rattle.protocol.specs.declared.call.Refusal.{Refusal}
 use Rattle.protocol.specs.Try.{Try, ◌>>=◌, ◌>>◌, unless, else_refuse}
 

@@ -1,5 +1,5 @@
 -- A loop that counts through the machines: what it has left decides.
-use Rattle.std.proofs.Common.{◌≡◌, ℕ, zero, suc, ◌+◌, ◌-◌, ◌<◌, ◌≤◌, Bool, true, false, ◌&&◌, List, [], ◌∷◌, sym, refl, ap, ◌∙◌, add-one, arith}
+use Rattle.std.proofs.Common.{◌≡◌, ℕ, zero, suc, ◌+◌, ◌-◌, ◌<◌, ◌≤◌, Bool, true, false, ◌&&◌, [], ◌∷◌, sym, refl, ap, ◌∙◌, arith}
 use Rattle.protocol.specs.Lists.{all_by, filter, counting}
 
 counting-next : (m k : ℕ) → m < k → counting m (k - m) ≡ m ∷ counting (m + 1) (k - (m + 1))

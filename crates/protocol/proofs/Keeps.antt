@@ -9,7 +9,7 @@ use Rattle.protocol.specs.declared.call.Call.{Call}
 use Rattle.protocol.specs.Try.{Try}
 use Rattle.protocol.specs.Plan.{is_fine, size}
 use Rattle.protocol.specs.Coordinator.{Coordinator, new_coordinator}
-use Rattle.protocol.specs.State.{State, Local, start, start_words, local_at, with_local}
+use Rattle.protocol.specs.State.{State, Local, start_words, local_at, with_local}
 use Rattle.protocol.specs.Call.{Accepted, coordinator_of}
 use Rattle.protocol.specs.Step.{settle, step, Run, run}
 use Rattle.protocol.specs.Kept.{Invariant, Invariants, ProperWords, KeptByCalls, Always}

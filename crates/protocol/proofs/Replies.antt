@@ -9,7 +9,7 @@ use Rattle.protocol.specs.declared.record.Reply.{Reply}
 use Rattle.protocol.specs.declared.call.Call.{Call}
 use Rattle.protocol.specs.Lists.{is_member, snoc, upd, without}
 use Rattle.protocol.specs.Record.{Note, Log, append, kind_eq}
-use Rattle.protocol.specs.Coordinator.{Coordinator, Phase, Idle, Opened, Locking, Checking, Backing, Installing, Aborting, queue}
+use Rattle.protocol.specs.Coordinator.{Coordinator, Phase, Idle, Opened, Locking, Checking, Backing, Installing, Aborting}
 use Rattle.protocol.specs.Room.{one_if}
 use Rattle.protocol.specs.State.{Local}
 use Rattle.protocol.specs.Call.{Accepted}

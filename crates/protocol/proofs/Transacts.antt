@@ -1,5 +1,5 @@
 -- What open, read, write and abandon answer on each way through their checks.
-use Rattle.std.proofs.Common.{◌≡◌, ℕ, ◌-◌, ◌^◌, ◌<◌, ◌≤◌, true, false, not, eqb, ltb, [], length, Some, None, Ok, Err, Option, sym, refl, ap, ◌∙◌}
+use Rattle.std.proofs.Common.{◌≡◌, ℕ, ◌-◌, ◌^◌, ◌<◌, ◌≤◌, true, false, not, [], length, Some, None, Err, Option, ap, ◌∙◌}
 use Rattle.std.proofs.lemmas.Bool.{lt-ltb, le-ltb, eq-eqb, ne_eqb}
 use Rattle.protocol.specs.declared.plan.Plan.{Plan}
 use Rattle.protocol.specs.declared.record.Line.{Line}
@@ -7,12 +7,11 @@ use Rattle.protocol.specs.declared.call.Call.TheVariants.{Open, Read, Write, Aba
 use Rattle.protocol.specs.declared.call.Refusal.TheVariants.{WrongPhase, NoAddress, TooMany, NotRead, UsedUp}
 use Rattle.protocol.specs.declared.call.Outcome.TheVariants.{Going, Aborted}
 use Rattle.protocol.specs.Lists.{snoc}
-use Rattle.protocol.specs.Try.{Try, ◌>>=◌, ◌>>◌, unless, else_refuse}
 use Rattle.protocol.specs.Plan.{size}
 use Rattle.protocol.specs.Lines.{line}
 use Rattle.protocol.specs.Coordinator.{Idle, Opened, is_idle, is_opened, line_at, with_phase, with_words}
 use Rattle.protocol.specs.State.{Local, with_own, in_phase}
-use Rattle.protocol.specs.Call.{Accepted, accept}
+use Rattle.protocol.specs.Call.{accept}
 use Rattle.protocol.specs.Transact.{read_word, write_word, seen, value_of, with_read, with_writes, rewrite}
 use Rattle.protocol.specs.Step.{local_call}
 use Rattle.protocol.proofs.Checks.{passes, stops, finds, misses}

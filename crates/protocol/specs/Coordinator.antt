@@ -1,5 +1,5 @@
 -- A coordinator: its phase, its transaction, its logs and its reply queues.
-use Rattle.std.specs.Prelude.{ℕ, Bool, true, false, List, [], ◌∷◌, Option, nat_eq}
+use Rattle.std.specs.Prelude.{ℕ, Bool, true, false, List, [], Option, nat_eq}
 use Rattle.protocol.specs.declared.record.Line.{Line}
 use Rattle.protocol.specs.declared.record.Reply.{Reply}
 use Rattle.protocol.specs.declared.plan.Plan.{Plan}

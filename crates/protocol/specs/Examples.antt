@@ -3,9 +3,8 @@ use Rattle.std.specs.Prelude.{◌≡◌, ℕ, ◌-◌, ◌^◌, true, List, [], 
 use Rattle.memory.specs.declared.word.Word.{Word}
 use Rattle.memory.specs.Words.{at}
 use Rattle.protocol.specs.declared.plan.Plan.{Plan}
-use Rattle.protocol.specs.declared.plan.Home.{Home}
 use Rattle.protocol.specs.declared.call.Call.{Call}
-use Rattle.protocol.specs.declared.call.Call.TheVariants.{Open, Read, Write, Abandon, Commit, Send, Poll, Take, Check, Trim}
+use Rattle.protocol.specs.declared.call.Call.TheVariants.{Open, Read, Write, Commit, Send, Poll, Take, Check, Trim}
 use Rattle.protocol.specs.Call.{Entry, numbers, refusal_number}
 use Rattle.protocol.specs.Try.{Try}
 use Rattle.protocol.specs.Step.{run, set_up}

@@ -1,5 +1,5 @@
 -- Which plans are accepted, and where a plan puts an address.
-use Rattle.std.specs.Prelude.{ℕ, ◌+◌, ◌*◌, ◌/◌, ◌^◌, Bool, true, false, not, ◌&&◌, List, [], ◌∷◌, take, ◌==◌, nat_le, nat_lt, slice_index_or}
+use Rattle.std.specs.Prelude.{ℕ, ◌*◌, ◌/◌, ◌^◌, Bool, not, ◌&&◌, List, take, ◌==◌, nat_le, nat_lt, slice_index_or}
 use Rattle.protocol.specs.Lists.{all_by, counting}
 use Rattle.protocol.specs.declared.plan.Plan.{Plan}
 use Rattle.protocol.specs.declared.plan.Home.{Home}

@@ -10,8 +10,8 @@ use Rattle.protocol.specs.declared.call.Outcome.TheVariants.{Going}
 use Rattle.protocol.specs.Lists.{all_by, find, snoc}
 use Rattle.protocol.specs.Try.{Try, ◌>>◌, unless}
 use Rattle.protocol.specs.Plan.{home_of}
-use Rattle.protocol.specs.Lines.{Words, is_current, lock_lines, install_lines, held_lines, free_lines, Backups, backups, back_up}
-use Rattle.protocol.specs.Record.{Note, Log, number_of, kind_eq, records, is_untrimmed}
+use Rattle.protocol.specs.Lines.{is_current, lock_lines, install_lines, held_lines, free_lines, Backups, backups, back_up}
+use Rattle.protocol.specs.Record.{Note, number_of, kind_eq, records, is_untrimmed}
 use Rattle.protocol.specs.Coordinator.{Coordinator, is_idle, is_opened, log, queue, with_log, with_queue, with_record}
 use Rattle.protocol.specs.State.{Local, with_own, with_primaries, with_backups}
 use Rattle.protocol.specs.Call.{Accepted, accept}

@@ -1,5 +1,5 @@
 -- Which lines go to which machine, and the places kept in a log for what a commit has yet to write.
-use Rattle.std.specs.Prelude.{ℕ, ◌+◌, ◌/◌, ◌^◌, Bool, true, false, not, ◌&&◌, ◌||◌, List, [], ◌∷◌, length, ◌==◌, bit_or, nat_eq, nat_le}
+use Rattle.std.specs.Prelude.{ℕ, ◌+◌, ◌/◌, ◌^◌, Bool, true, false, not, ◌||◌, List, [], ◌∷◌, length, ◌==◌, bit_or, nat_eq, nat_le}
 use Rattle.protocol.specs.Lists.{is_empty, filter, all_by, is_member}
 use Rattle.protocol.specs.declared.record.Line.{Line}
 use Rattle.protocol.specs.declared.plan.Plan.{Plan}

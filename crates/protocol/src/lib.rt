@@ -1,4 +1,6 @@
 // The commit protocol: its plain types here, its rules as definitions in specs/.
+#![tactic(auto)]
+
 pub mod call;
 pub mod invariant;
 pub mod plan;

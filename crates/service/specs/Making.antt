@@ -1,5 +1,5 @@
 -- What making a directory answers.
-use Rattle.std.specs.Prelude.{◌≡◌, ℕ, ◌*◌, Bool, true, ◌&&◌, length, Ok, Err, vec_items, Result, ◌==◌}
+use Rattle.std.specs.Prelude.{◌≡◌, ◌*◌, Bool, true, ◌&&◌, length, Ok, Err, vec_items, Result, ◌==◌}
 use Rattle.protocol.specs.declared.plan.Plan.{Plan}
 use Rattle.protocol.specs.Plan.{is_fine, size}
 use Rattle.protocol.specs.Lines.{Words}

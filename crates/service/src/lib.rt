@@ -1,4 +1,6 @@
 // A directory that owns its plan, tables and memories, and lends them to the calls.
+#![tactic(auto)]
+
 pub mod calls;
 pub mod make;
 pub mod owner;

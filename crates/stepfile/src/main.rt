@@ -1,4 +1,6 @@
 // Plays the step file on standard input: makes each call in its turn, and prints what it answered.
+#![tactic(auto)]
+
 use playback::transcript::transcript;
 use std::io;
 use std::io::Read;

@@ -1,4 +1,6 @@
 // The step file: its frames, its entries, and the faults that a file can have.
+#![tactic(auto)]
+
 pub mod decode;
 pub mod encode;
 pub mod fault;

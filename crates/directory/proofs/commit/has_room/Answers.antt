@@ -1,5 +1,5 @@
 -- Each log is asked in its turn.
-use Rattle.std.proofs.Common.{◌≡◌, ℕ, take, sym, refl, ap, ◌∙◌, arith, rules}
+use Rattle.std.proofs.Common.{ℕ, take, sym, ap, ◌∙◌, arith, rules}
 use Rattle.handling.specs.Sending.{wanted}
 use Rattle.protocol.proofs.Counting.{test-more, test-fails, test-all}
 use Rattle.directory.specs.Commits.{roomy_at}

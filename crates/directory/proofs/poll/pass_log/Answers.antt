@@ -1,5 +1,5 @@
 -- A TRUNCATE drops, and any other record is passed.
-use Rattle.std.proofs.Common.{◌+◌, arith}
+use Rattle.std.proofs.Common.{arith}
 use Rattle.directory.proofs.Passing.{more, advanced, dropped}
 use Rattle.directory.proofs.poll.pass_log.Goals as goal
 

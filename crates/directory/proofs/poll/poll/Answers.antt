@@ -2,7 +2,6 @@
 use Rattle.std.proofs.Common.{arith, rules}
 use Rattle.directory.specs.View.{World, world}
 use Rattle.directory.proofs.Doing.{inside, handed-on}
-use Rattle.directory.proofs.Plans.{sizes-of}
 use Rattle.directory.proofs.Pairs as pairs
 use Rattle.directory.proofs.Polling.{poll-beyond, nothing-polled, polls}
 use Rattle.directory.proofs.poll.poll.Goals as goal

@@ -1,5 +1,5 @@
 -- A LOCK is granted or refused as a whole.
-use Rattle.std.proofs.Common.{◌≡◌, ℕ, Bool, true, false, cond, sym, ap, subst, arith}
+use Rattle.std.proofs.Common.{ℕ, Bool, cond, ap, subst, arith}
 use Rattle.protocol.specs.Record.{note}
 use Rattle.handling.specs.Handling.{HandlesLock}
 use Rattle.handling.proofs.Handles.{locks-or-not}

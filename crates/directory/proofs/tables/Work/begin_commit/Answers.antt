@@ -1,5 +1,5 @@
 -- The transaction stands for the first phase of its commit.
-use Rattle.std.proofs.Common.{◌≡◌, ℕ, take, refl, ap, ◌∙◌, arith}
+use Rattle.std.proofs.Common.{ℕ, take, refl, ap, ◌∙◌, arith}
 use Rattle.protocol.specs.Room.{is_at_primary}
 use Rattle.directory.proofs.Begun.{five, begins}
 use Rattle.directory.proofs.tables.Work.begin_commit.Goals as goal

@@ -1,5 +1,5 @@
 -- Each way out of making a directory.
-use Rattle.std.proofs.Common.{◌≡◌, [], length, sym, refl, ap, ◌∙◌}
+use Rattle.std.proofs.Common.{[], length, sym, refl, ap, ◌∙◌}
 use Rattle.protocol.specs.declared.call.Refusal.TheVariants.{BadPlan}
 use Rattle.protocol.proofs.Checks.{stops}
 use Rattle.directory.specs.View.{World, world}

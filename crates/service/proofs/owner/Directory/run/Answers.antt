@@ -1,6 +1,5 @@
 -- The loop makes the calls in their order.
 use Rattle.std.proofs.Common.{◌∙◌, arith}
-use Rattle.service.specs.Owned.{owned}
 use Rattle.service.proofs.Running.{runs-next, runs-all}
 use Rattle.service.proofs.owner.Directory.run.Goals as goal
 
