@@ -1,7 +1,7 @@
 -- What check does on each way out.
 use Rattle.std.proofs.Common.{◌≡◌, ℕ, ◌^◌, ◌<◌, Bool, true, false, cond, List, [], ◌∷◌, length, get_or, drop, set, Some, None, Ok, Err, sym, refl, ap, ◌∙◌, subst, arith}
 use mir.Val.{bool_byte}
-use Rattle.std.specs.List.{AllByRecursion as All}
+use Rattle.std.specs.List.{AllByRecursion}
 use Rattle.std.proofs.ByRecursion.{All-drop}
 use Rattle.std.proofs.lemmas.Bool.{lt-ltb}
 use Rattle.memory.specs.Words.{at, there, Proper}
@@ -83,8 +83,8 @@ module _ (p : Plan) (w : World) (c : ℕ) (in' : Inside p w c) (e : Coordinator)
     check-unlooked l ls next none = refuses p w (Check c) in' e NoAddress
         (λ s.
         let Fits : Line → Type 0 = λ r. (r.address < size p) × (r.version < 2 ^ 60) in
-        let left : All Fits (l ∷ ls) =
-        subst (All Fits) next (all_filter Fits _ (drop first.work.passed (reads_of first.work)) (All-drop Fits first.work.passed (reads_of first.work) (invariant-of p w (Check c) in' e s).reads_fit)) in
+        let left : AllByRecursion Fits (l ∷ ls) =
+        subst (AllByRecursion Fits) next (all_filter Fits _ (drop first.work.passed (reads_of first.work)) (All-drop Fits first.work.passed (reads_of first.work) (invariant-of p w (Check c) in' e s).reads_fit)) in
         absurd (not_found w.primaries l none (omega (arith, left.0.0, (fits-of p w in'.fits).primaries))))
 
     module _ (words : (a : ℕ) → Proper (at w.primaries a)) (d : Coordinator) (t : Work) where

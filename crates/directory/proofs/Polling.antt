@@ -1,7 +1,7 @@
 -- What poll does on each way out.
 use Rattle.std.proofs.Common.{◌≡◌, ℕ, suc, ◌+◌, ◌*◌, ◌<◌, ◌≤◌, Bool, true, false, cond, List, [], ◌∷◌, reverse, length, get_or, drop, set, Some, Ok, Err, sym, refl, ap, ◌∙◌, subst, arith}
 use borrow.Rule.Slice.PartMut.{put_mid}
-use Rattle.std.specs.List.{AllByRecursion as All}
+use Rattle.std.specs.List.{AllByRecursion}
 use Rattle.std.proofs.ByRecursion.{All-append}
 use Rattle.std.proofs.lemmas.List.{drop-set-lt}
 use Rattle.std.proofs.lemmas.Bool.{ltb-true}
@@ -153,9 +153,9 @@ module _ (p : Plan) (w : World) (c m : ℕ) (in' : Inside p w c) where
       inv : Sound p w → Invariant p k
       inv s = invariant-of p w (Poll c m) in' d s
 
-      all_lines : Sound p w → All (λ r. Lines p r.lines) (notes (log_at d) slots)
+      all_lines : Sound p w → AllByRecursion (λ r. Lines p r.lines) (notes (log_at d) slots)
       all_lines s =
-          subst (All (λ r. Lines p r.lines)) (ap records (log_is d s) ∙ log-records (log_at d) slots)
+          subst (AllByRecursion (λ r. Lines p r.lines)) (ap records (log_is d s) ∙ log-records (log_at d) slots)
           (All-append _ (reverse (log k m).polled) (log k m).waiting (all-reverse _ (log k m).polled ((inv s).polled m below)) ((inv s).waiting m below))
 
       ready : Sound p w → Ready p (log_at d) slots w.primaries w.firsts w.seconds

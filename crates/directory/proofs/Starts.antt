@@ -1,6 +1,6 @@
 -- Fresh coordinators stand for the protocol's start.
 use Rattle.std.proofs.Common.{◌≡◌, ℕ, zero, suc, ◌+◌, ◌*◌, ◌≤◌, List, [], length, get_or, take, replicate, sym, refl, ap, ◌∙◌, subst, arith}
-use Rattle.std.specs.List.{AllByRecursion as All}
+use Rattle.std.specs.List.{AllByRecursion}
 use Rattle.std.proofs.lemmas.List.{take-replicate}
 use Rattle.ring.specs.declared.Ring.{Ring}
 use Rattle.ring.specs.Contents.{contents}
@@ -72,8 +72,8 @@ module _ (p : Plan) (co : Coordinator) (few : Sizes p) (is : Fresh p.first co) w
   fresh-rings = record {
     five_logs = ap length is.logs;
     five_queues = ap length is.queues;
-    logs = subst (All (λ r. ring.Sound r p.capacity)) (sym is.logs) (all_replicate (λ r. ring.Sound r p.capacity) 5 empty_ring (record { head = omega (arith, few.capacity.0); len = omega arith; cursor = omega arith }));
-    queues = subst (All (λ r. ring.Sound r 4)) (sym is.queues) (all_replicate (λ r. ring.Sound r 4) 5 empty_ring (record { head = omega arith; len = omega arith; cursor = omega arith }));
+    logs = subst (AllByRecursion (λ r. ring.Sound r p.capacity)) (sym is.logs) (all_replicate (λ r. ring.Sound r p.capacity) 5 empty_ring (record { head = omega (arith, few.capacity.0); len = omega arith; cursor = omega arith }));
+    queues = subst (AllByRecursion (λ r. ring.Sound r 4)) (sym is.queues) (all_replicate (λ r. ring.Sound r 4) 5 empty_ring (record { head = omega arith; len = omega arith; cursor = omega arith }));
   }
 
   owns-fresh : (cs : List Coordinator) (rs : List Record) (qs : List Reply) → take p.coordinators cs ≡ replicate p.coordinators co
@@ -89,7 +89,7 @@ module _ (p : Plan) (co : Coordinator) (few : Sizes p) (is : Fresh p.first co) w
       all-blank (new_coordinator p) p.coordinators (owns p cs rs qs) (owns-fresh cs rs qs e) in
       record {
         sound = record {
-          rings = subst (All (Rings p)) (sym e) (all_replicate (Rings p) p.coordinators co fresh-rings);
+          rings = subst (AllByRecursion (Rings p)) (sym e) (all_replicate (Rings p) p.coordinators co fresh-rings);
           invariant = λ c. subst (λ (f : ℕ → protocol.Coordinator). Invariant p (f c)) (sym blank) (new-invariant p);
         };
         starts = cc;

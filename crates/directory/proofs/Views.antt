@@ -1,7 +1,7 @@
 -- One coordinator of the view, and a change of it.
 use Rattle.std.proofs.Common.{◌≡◌, ℕ, ◌<◌, ◌≤◌, List, length, get_or, take, set, sym, ap, ◌∙◌, subst, zero-add, arith}
 use lib.Seq.{take-set-lt}
-use Rattle.std.specs.List.{AllByRecursion as All}
+use Rattle.std.specs.List.{AllByRecursion}
 use Rattle.std.proofs.ByRecursion.{All-get_or, All-set}
 use Rattle.std.proofs.lemmas.List.{get_or-take, length-take}
 use Rattle.ring.specs.Rings.{mapi}
@@ -45,9 +45,9 @@ module _ (p : Plan) (cs : List Coordinator) (rs : List Record) (c : ℕ) (below 
       ∙ getD-upd (owns p cs rs qs) c (own p rs' qs' c co) (protocol.new_coordinator p) (omega (arith, below, owns-long qs))
 
   -- what holds of each of the first coordinators holds of coordinator c
-  pub first-at : (P : Coordinator → Type 0) (d : Coordinator) → All P (take p.coordinators cs) → P (get_or cs c d)
+  pub first-at : (P : Coordinator → Type 0) (d : Coordinator) → AllByRecursion P (take p.coordinators cs) → P (get_or cs c d)
   first-at P d h =
       subst P (get_or-take p.coordinators cs c d below) (All-get_or P (take p.coordinators cs) c d (simp length-take (omega arith)) h)
 
-  pub first-set : (P : Coordinator → Type 0) (co : Coordinator) → All P (take p.coordinators cs) → P co → All P (take p.coordinators (set cs c co))
-  first-set P co h q = subst (All P) (sym (take-set-lt p.coordinators cs c co below)) (All-set P (take p.coordinators cs) c co q h)
+  pub first-set : (P : Coordinator → Type 0) (co : Coordinator) → AllByRecursion P (take p.coordinators cs) → P co → AllByRecursion P (take p.coordinators (set cs c co))
+  first-set P co h q = subst (AllByRecursion P) (sym (take-set-lt p.coordinators cs c co below)) (All-set P (take p.coordinators cs) c co q h)

@@ -1,7 +1,7 @@
 -- The lines of a COMMIT-BACKUP, put into the backups one after the other and counted.
 use Rattle.std.proofs.Common.{◌≡◌, ℕ, ◌+◌, ◌<◌, ◌≤◌, Bool, true, false, cond, List, ◌∷◌, length, get_or, drop, sym, refl, ap, ◌∙◌, subst, arith}
 use mir.Val.{bool_byte}
-use Rattle.std.specs.List.{AllByRecursion as All}
+use Rattle.std.specs.List.{AllByRecursion}
 use Rattle.std.proofs.ByRecursion.{All-weaker}
 use Rattle.std.proofs.lemmas.List.{length-set, drop_more, drop_all}
 use Rattle.protocol.specs.declared.plan.Plan.{Plan}
@@ -67,13 +67,13 @@ module _ (p : Plan) (m : ℕ) where
     left-none fs ss puts ls j past left = (subst (Left fs ss puts) (drop_all j ls past) left).after
 
   -- where all fit and the backups are of one size, no line is passed over
-  backs-up-all : (n k : ℕ) (ls : List Line) → All (Fit n) ls → k ≡ n → fitting_backup p m n k ls ≡ ls
+  backs-up-all : (n k : ℕ) (ls : List Line) → AllByRecursion (Fit n) ls → k ≡ n → fitting_backup p m n k ls ≡ ls
   backs-up-all n k ls fit same = filter-all (is_fit_backup p m n k) ls (All-weaker (Fit n) _ (λ l f. either l f (is_first_backup p m l)) ls fit)
     where
       either : (l : Line) → Fit n l → (t : Bool) → is_fit (cond t n k) l ≡ true
       either l f true = fits n l f
       either l f false = ap (λ i. is_fit i l) same ∙ fits n l f
 
-  pub backs-up-fit : (n k : ℕ) (ls : List Line) (fs ss fs' ss' : Words) (puts : ℕ) → ((i : ℕ) → backups (i + puts) fs' ss' ≡ back_up_lines p m (fitting_backup p m n k ls) (backups i fs ss)) → All (Fit n) ls → k ≡ n
+  pub backs-up-fit : (n k : ℕ) (ls : List Line) (fs ss fs' ss' : Words) (puts : ℕ) → ((i : ℕ) → backups (i + puts) fs' ss' ≡ back_up_lines p m (fitting_backup p m n k ls) (backups i fs ss)) → AllByRecursion (Fit n) ls → k ≡ n
       → (i : ℕ) → backups (i + puts) fs' ss' ≡ back_up_lines p m ls (backups i fs ss)
   backs-up-fit n k ls fs ss fs' ss' puts after fit same i = after i ∙ ap (λ (ks : List Line). back_up_lines p m ks (backups i fs ss)) (backs-up-all n k ls fit same)

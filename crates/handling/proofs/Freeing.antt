@@ -1,7 +1,7 @@
 -- The lines of a transaction's LOCK, freed one after the other where the holder has them, and counted.
 use Rattle.std.proofs.Common.{◌≡◌, ℕ, ◌+◌, ◌<◌, ◌≤◌, Bool, true, false, cond, eqb, List, [], ◌∷◌, length, get_or, drop, sym, refl, ap, ◌∙◌, subst, arith}
 use mir.Val.{bool_byte}
-use Rattle.std.specs.List.{AllByRecursion as All}
+use Rattle.std.specs.List.{AllByRecursion}
 use Rattle.std.proofs.lemmas.List.{length-set, get_or-set_other, drop_more, drop_all}
 use Rattle.std.proofs.lemmas.Bool.Decides.{nat_tests}
 use Rattle.memory.specs.declared.word.Word.{Word}
@@ -34,14 +34,14 @@ module _ (h : ℕ) where
 
   -- the words have what they had, at the lines' addresses
   abbrev Same : Words → Words → List Line → Type 0
-  Same ws vs ls = All (λ l. at vs l.address ≡ at ws l.address) ls
+  Same ws vs ls = AllByRecursion (λ l. at vs l.address ≡ at ws l.address) ls
 
   same_kept : (ws vs : Words) (a : ℕ) (ls : List Line) → Absent a ls → Same ws vs ls → Same ws (hold vs 0 a) ls
   same_kept ws vs a [] out same = tt
   same_kept ws vs a (l ∷ ls) out same = (get_or-set_other vs a l.address _ blank (λ e. out.0 (sym e)) ∙ same.0, same_kept ws vs a ls out.1 same.1)
 
   -- where the lines fit and are apart, the holder's are freed, each once
-  held-freed : (ws vs : Words) (ls : List Line) → holds h ≡ true → length vs ≡ length ws → All (Fit (length ws)) ls → Apart ls → Same ws vs ls → freed_lines vs h ls ≡ held_lines ws h ls
+  held-freed : (ws vs : Words) (ls : List Line) → holds h ≡ true → length vs ≡ length ws → AllByRecursion (Fit (length ws)) ls → Apart ls → Same ws vs ls → freed_lines vs h ls ≡ held_lines ws h ls
   held-freed ws vs [] ok long fit apart same = refl
   held-freed ws vs (l ∷ ls) ok long fit apart same =
       let within : l.address < length vs = omega (arith, long, fit.0.0) in
@@ -57,7 +57,7 @@ module _ (h : ℕ) where
   same-all ws [] = tt
   same-all ws (l ∷ ls) = (refl, same-all ws ls)
 
-  pub frees-held : (ws after : Words) (k : ℕ) (ls : List Line) → after ≡ free_lines ws (freed_lines ws h ls) → k ≡ length (freed_lines ws h ls) → All (Fit (length ws)) ls → Apart ls → holds h ≡ true
+  pub frees-held : (ws after : Words) (k : ℕ) (ls : List Line) → after ≡ free_lines ws (freed_lines ws h ls) → k ≡ length (freed_lines ws h ls) → AllByRecursion (Fit (length ws)) ls → Apart ls → holds h ≡ true
       → (after ≡ free_lines ws (held_lines ws h ls)) × (k ≡ length (held_lines ws h ls))
   frees-held ws after k ls words count fit apart ok =
       let all = held-freed ws ws ls ok refl fit apart (same-all ws ls) in (words ∙ ap (free_lines ws) all, count ∙ ap length all)

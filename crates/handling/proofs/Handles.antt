@@ -1,6 +1,6 @@
 -- What the lines of a record do, as the functions on lines ensure it of the part that was lent to them.
 use Rattle.std.proofs.Common.{◌≡◌, ℕ, suc, ◌+◌, ◌^◌, ◌<◌, min, Bool, true, false, cond, List, [], ◌∷◌, reverse, length, take, Some, None, sym, refl, ap, ◌∙◌, subst, arith}
-use Rattle.std.specs.List.{AllByRecursion as All}
+use Rattle.std.specs.List.{AllByRecursion}
 use Rattle.std.proofs.ByRecursion.{All-append, All-take}
 use Rattle.std.proofs.lemmas.List.{length-take, reverse-append}
 use Rattle.std.proofs.lemmas.Bool.{and_from, lt-ltb}
@@ -20,11 +20,11 @@ use Rattle.handling.specs.Notes.{notes, polled}
 use Rattle.handling.specs.Handling.{effect, SoundLog, HandlesLock}
 
 module _ {X : Type 0} (P : X → Type 0) where
-  pub all-reverse : (xs : List X) → All P xs → All P (reverse xs)
+  pub all-reverse : (xs : List X) → AllByRecursion P xs → AllByRecursion P (reverse xs)
   all-reverse [] h = tt
-  all-reverse (x ∷ xs) h = subst (All P) (sym (reverse-append (x ∷ []) xs)) (All-append P (reverse xs) (x ∷ []) (all-reverse xs h.1) (h.0, tt))
+  all-reverse (x ∷ xs) h = subst (AllByRecursion P) (sym (reverse-append (x ∷ []) xs)) (All-append P (reverse xs) (x ∷ []) (all-reverse xs h.1) (h.0, tt))
 
-  all_found : (test : X → Bool) (xs : List X) (x : X) → All P xs → find test xs ≡ Some x → P x
+  all_found : (test : X → Bool) (xs : List X) (x : X) → AllByRecursion P xs → find test xs ≡ Some x → P x
   all_found test [] x h e = let z : ◌≡◌ {A = ℕ} 0 1 = cc in absurd (omega arith)
   all_found test (y ∷ xs) x h e = go (test y) (λ q. all_found test xs x h.1 q) e
     where
@@ -43,8 +43,8 @@ module _ (p : Plan) (log : Ring) (slots : List Record) (number : ℕ) (x : Recor
 pub none_found : (log : Ring) (slots : List Record) (number : ℕ) → None ≡ find (is_lock_of number) (polled log slots) → locked_lines number (polled log slots) ≡ []
 none_found log slots number e = ap lines_of (sym e)
 
-fits-words : (p : Plan) (n : ℕ) (ls : List Line) → n ≡ size p → All (λ l. (l.address < size p) × (l.version + 1 < 2 ^ 60)) ls → All (Fit n) ls
-fits-words p n ls e h = subst (λ (k : ℕ). All (Fit k) ls) (sym e) h
+fits-words : (p : Plan) (n : ℕ) (ls : List Line) → n ≡ size p → AllByRecursion (λ l. (l.address < size p) × (l.version + 1 < 2 ^ 60)) ls → AllByRecursion (Fit n) ls
+fits-words p n ls e h = subst (λ (k : ℕ). AllByRecursion (Fit k) ls) (sym e) h
 
 -- coordinator c holds as c + 1
 holder-is : (c h : ℕ) → h ≡ min (c + 1) 255 → c < 15 → h ≡ suc c
@@ -63,11 +63,11 @@ module _ (p : Plan) (x : Record) (k : ℕ) (is : k ≡ x.count) (ws ws' : Words)
   part-is : part ≡ all
   part-is = ap (λ (n : ℕ). take n x.lines) is
 
-  fit-part : Lines p all → length ws ≡ size p → All (Fit (length ws)) part
-  fit-part good long = subst (λ (zs : List Line). All (Fit (length ws)) zs) (sym part-is) (fits-words p (length ws) all long good.fit)
+  fit-part : Lines p all → length ws ≡ size p → AllByRecursion (Fit (length ws)) part
+  fit-part good long = subst (λ (zs : List Line). AllByRecursion (Fit (length ws)) zs) (sym part-is) (fits-words p (length ws) all long good.fit)
 
   module _ (c h : ℕ) (h-is : h ≡ min (c + 1) 255) (granted : Bool) (after : ws' ≡ cond granted (lock_lines ws h part) ws)
-      (told : All (Fit (length ws)) part → holds h ≡ true → granted ≡ all_by (is_current ws) part) where
+      (told : AllByRecursion (Fit (length ws)) part → holds h ≡ true → granted ≡ all_by (is_current ws) part) where
     long-all : length all ≡ x.count
     long-all = simp length-take (omega (arith, x.few, x.four))
 
@@ -83,14 +83,14 @@ module _ (p : Plan) (x : Record) (k : ℕ) (is : k ≡ x.count) (ws ws' : Words)
         by_cases false = refl
 
   module _ (r : ℕ) (ls : List Line) (lines : ls ≡ all) where
-    pub installed : (All (Fit (length ws)) part → (ws' ≡ install_lines ws part) × (r ≡ length part)) → Lines p all → length ws ≡ size p → (ws' ≡ install_lines ws ls) × (r ≡ length ls)
+    pub installed : (AllByRecursion (Fit (length ws)) part → (ws' ≡ install_lines ws part) × (r ≡ length part)) → Lines p all → length ws ≡ size p → (ws' ≡ install_lines ws ls) × (r ≡ length ls)
     installed told good long =
         let did = told (fit-part good long) in
         let same : part ≡ ls = part-is ∙ sym lines in
         (did.0 ∙ ap (install_lines ws) same, did.1 ∙ ap length same)
 
     pub released : (c h : ℕ) → h ≡ min (c + 1) 255 → c < 15
-        → (All (Fit (length ws)) part → Apart part → holds h ≡ true → (ws' ≡ free_lines ws (held_lines ws h part)) × (r ≡ length (held_lines ws h part)))
+        → (AllByRecursion (Fit (length ws)) part → Apart part → holds h ≡ true → (ws' ≡ free_lines ws (held_lines ws h part)) × (r ≡ length (held_lines ws h part)))
         → Lines p all → length ws ≡ size p → (ws' ≡ free_lines ws (held_lines ws (suc c) ls)) × (r ≡ length (held_lines ws (suc c) ls))
     released c h h-is few told good long =
         let same = holder-is c h h-is few in

@@ -1,7 +1,7 @@
 -- The lines of a transaction's LOCK, installed one after the other and counted.
 use Rattle.std.proofs.Common.{◌≡◌, ℕ, ◌+◌, ◌<◌, ◌≤◌, Bool, true, false, cond, List, [], ◌∷◌, length, get_or, drop, sym, refl, ap, ◌∙◌, subst, arith}
 use mir.Val.{bool_byte}
-use Rattle.std.specs.List.{AllByRecursion as All}
+use Rattle.std.specs.List.{AllByRecursion}
 use Rattle.std.proofs.ByRecursion.{All-weaker}
 use Rattle.std.proofs.lemmas.List.{length-set, drop_more, drop_all}
 use Rattle.std.proofs.lemmas.Bool.{and_from, lt-ltb}
@@ -11,14 +11,14 @@ use Rattle.protocol.specs.Lines.{Words, put, install_lines}
 use Rattle.handling.specs.Fitting.{Fit, is_fit, fitting}
 
 -- where all pass, a filter keeps all
-pub filter-all : {X : Type 0} (p : X → Bool) (xs : List X) → All (λ x. p x ≡ true) xs → filter p xs ≡ xs
+pub filter-all : {X : Type 0} (p : X → Bool) (xs : List X) → AllByRecursion (λ x. p x ≡ true) xs → filter p xs ≡ xs
 filter-all p [] all = refl
 filter-all p (x ∷ xs) all = rw all.0 (ap (λ ys. x ∷ ys) (filter-all p xs all.1))
 
 pub fits : (n : ℕ) (l : Line) → Fit n l → is_fit n l ≡ true
 fits n l fit = and_from _ _ (lt-ltb _ _ fit.0) (lt-ltb _ _ fit.1)
 
-fitting-all : (n : ℕ) (ls : List Line) → All (Fit n) ls → fitting n ls ≡ ls
+fitting-all : (n : ℕ) (ls : List Line) → AllByRecursion (Fit n) ls → fitting n ls ≡ ls
 fitting-all n ls fit = filter-all (is_fit n) ls (All-weaker (Fit n) _ (fits n) ls fit)
 
 -- the line's value at the version after the one read
@@ -54,7 +54,7 @@ module _ (n : ℕ) (wanted : Words) (total : ℕ) where
   left-none ws k ls i past left = let last = subst (Left ws k) (drop_all i ls past) left in (last.words, omega (arith, last.count))
 
 -- what is wanted where all fit
-pub installs-all : (ws after : Words) (k : ℕ) (ls : List Line) → after ≡ install_lines ws (fitting (length ws) ls) → k ≡ length (fitting (length ws) ls) → All (Fit (length ws)) ls
+pub installs-all : (ws after : Words) (k : ℕ) (ls : List Line) → after ≡ install_lines ws (fitting (length ws) ls) → k ≡ length (fitting (length ws) ls) → AllByRecursion (Fit (length ws)) ls
     → (after ≡ install_lines ws ls) × (k ≡ length ls)
 installs-all ws after k ls words count fit =
     let all = fitting-all (length ws) ls fit in (words ∙ ap (install_lines ws) all, count ∙ ap length all)

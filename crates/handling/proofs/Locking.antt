@@ -1,6 +1,6 @@
 -- The lines of a granted LOCK: each is locked, one after the other, and what that leaves.
 use Rattle.std.proofs.Common.{◌≡◌, ℕ, ◌+◌, ◌<◌, ◌≤◌, Bool, true, false, ◌&&◌, ltb, ◌≢◌, ◌⊎◌, List, [], ◌∷◌, length, get_or, drop, set, sym, refl, ap, ◌∙◌, subst, inl, inr, ⊎_elim, arith}
-use Rattle.std.specs.List.{AllByRecursion as All}
+use Rattle.std.specs.List.{AllByRecursion}
 use Rattle.std.proofs.ByRecursion.{All-weaker}
 use Rattle.std.proofs.lemmas.List.{length-set, get_or-set_same, get_or-set_other, set_past, set-get_or, drop_all, drop_more}
 use Rattle.std.proofs.lemmas.Bool.{and_parts, cases_eq, cases_lt, ltb-true}
@@ -53,7 +53,7 @@ module _ (h : ℕ) where
   held_kept ws (l ∷ ls) a w e =
       held_kept (hold ws h l.address) ls a w (⊎_elim (λ q. q ∙ e) (λ q. q ∙ ap (held_by h) e) (at-hold h ws l.address a))
 
-  each-held : (ws : Words) (ls : List Line) → All (λ l. l.address < length ws) ls → All (λ l. at (lock_lines ws h ls) l.address ≡ held_by h (at ws l.address)) ls
+  each-held : (ws : Words) (ls : List Line) → AllByRecursion (λ l. l.address < length ws) ls → AllByRecursion (λ l. at (lock_lines ws h ls) l.address ≡ held_by h (at ws l.address)) ls
   each-held ws [] within = tt
   each-held ws (l ∷ ls) within =
       let after = hold ws h l.address in (
@@ -62,7 +62,7 @@ module _ (h : ℕ) where
             (each-held after ls (All-weaker _ _ (λ k b. subst (λ n. k.address < n) (sym (length-hold ws h l.address)) b) ls within.1)),
       )
 
-  lockable-there : (ws : Words) (ls : List Line) → lockable_lines ws h ls ≡ true → All (λ l. l.address < length ws) ls
+  lockable-there : (ws : Words) (ls : List Line) → lockable_lines ws h ls ≡ true → AllByRecursion (λ l. l.address < length ws) ls
   lockable-there ws [] ok = tt
   lockable-there ws (l ∷ ls) ok =
       let parts = and_parts (lockable ws l.address l.version h) (lockable_lines ws h ls) ok in
@@ -76,7 +76,7 @@ module _ (h : ℕ) where
   abbrev pub Ready : Words → Line → Type 0
   Ready ws l = (lockable ws l.address l.version h ≡ true) ⊎ (((at ws l.address).holder ≡ h) × (holds h ≡ true))
 
-  all-ready : (ws : Words) (ls : List Line) → lockable_lines ws h ls ≡ true → All (Ready ws) ls
+  all-ready : (ws : Words) (ls : List Line) → lockable_lines ws h ls ≡ true → AllByRecursion (Ready ws) ls
   all-ready ws [] ok = tt
   all-ready ws (l ∷ ls) ok =
       let parts = and_parts (lockable ws l.address l.version h) (lockable_lines ws h ls) ok in (inl parts.0, all-ready ws ls parts.1)
@@ -105,12 +105,12 @@ module _ (h : ℕ) where
       (cases_eq l.address b)
 
   -- one line is locked: the others are still ready
-  others-ready : (ws : Words) (l : Line) (ls : List Line) → Ready ws l → All (Ready ws) ls → All (Ready (hold ws h l.address)) ls
+  others-ready : (ws : Words) (l : Line) (ls : List Line) → Ready ws l → AllByRecursion (Ready ws) ls → AllByRecursion (Ready (hold ws h l.address)) ls
   others-ready ws l ls ready all = All-weaker (Ready ws) (Ready (hold ws h l.address)) (ready-kept ws l.address (ready-holder ws l ready)) ls all
 
   -- the lines left lead to the words wanted, and each is ready
   abbrev pub Left : Words → Words → List Line → Type 0
-  Left wanted ws ls = (lock_lines ws h ls ≡ wanted) × All (Ready ws) ls
+  Left wanted ws ls = (lock_lines ws h ls ≡ wanted) × AllByRecursion (Ready ws) ls
 
   pub left-all : (ws : Words) (ls : List Line) → lockable_lines ws h ls ≡ true → Left (lock_lines ws h ls) ws ls
   left-all ws ls ok = (refl, all-ready ws ls ok)
@@ -126,7 +126,7 @@ module _ (h : ℕ) where
   left-none wanted ws ls i past before = (subst (Left wanted ws) (drop_all i ls past) before).0
 
   -- where the lines fit the memory, they can be locked where their words are free and at the versions read
-  pub lockable-fit : (ws : Words) (ls : List Line) → All (Fit (length ws)) ls → holds h ≡ true → lockable_lines ws h ls ≡ all_by (is_current ws) ls
+  pub lockable-fit : (ws : Words) (ls : List Line) → AllByRecursion (Fit (length ws)) ls → holds h ≡ true → lockable_lines ws h ls ≡ all_by (is_current ws) ls
   lockable-fit ws [] fit ok = refl
   lockable-fit ws (l ∷ ls) fit ok =
       let within : l.address < length ws = fit.0.0 in

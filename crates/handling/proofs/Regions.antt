@@ -2,7 +2,7 @@
 use Rattle.std.proofs.Common.{◌≡◌, ℕ, zero, suc, ◌+◌, ◌/◌, ◌%◌, ◌^◌, ◌<◌, ◌≤◌, List, length, get_or, drop, sym, refl, ap, ◌∙◌, mod-lt, div-add-mod', arith}
 use lib.Arith.{bin_ind}
 use lib.Bits.{bit_or, or_shr, or_mod, or_zero_r}
-use Rattle.std.specs.List.{AllByRecursion as All}
+use Rattle.std.specs.List.{AllByRecursion}
 use Rattle.std.proofs.lemmas.List.{at_drop_more, at_drop_all}
 use Rattle.std.proofs.ByRecursion.{All-get_or, All-weaker}
 use Rattle.protocol.specs.declared.plan.Plan.{Plan}
@@ -33,7 +33,7 @@ or_assoc = bin_ind (λ (n : ℕ). (b c : ℕ) → bit_or (bit_or n b) c ≡ bit_
     ∙ sym (or_mod n (bit_or b c) 1 ∙ ap (bit_or (n % 2)) (or_mod b c 1))))
 
 -- the lines of a transaction name words of the plan's regions, eight at most
-pub fit-in-eight : (p : Plan) (ws : List Line) → p.regions ≤ 8 → All (Fits p) ws → InEightRegions ws
+pub fit-in-eight : (p : Plan) (ws : List Line) → p.regions ≤ 8 → AllByRecursion (Fits p) ws → InEightRegions ws
 fit-in-eight p ws few fit = All-weaker (Fits p) (λ (w : Line). w.address < 512) (λ w h. omega arith) ws fit
 
 -- what is collected so far, with the regions of the rest

@@ -1,6 +1,6 @@
 -- A truncation, record by record.
 use Rattle.std.proofs.Common.{◌≡◌, ℕ, ◌+◌, ◌≤◌, Bool, true, false, cond, List, [], ◌∷◌, length, take, drop, Some, sym, refl, ap, ◌∙◌, subst, arith, length-set}
-use Rattle.std.specs.List.{AllByRecursion as All}
+use Rattle.std.specs.List.{AllByRecursion}
 use Rattle.std.proofs.ByRecursion.{All-drop}
 use Rattle.std.proofs.lemmas.List.{length-take}
 use Rattle.ring.specs.declared.Ring.{Ring}
@@ -53,7 +53,7 @@ module _ (p : Plan) (m : ℕ) (x : Record) (k : ℕ) (is : k ≡ x.count) (kind 
   part-is = ap (λ (n : ℕ). take n x.lines) is
 
   pub backs-up-lines : r ≤ length part → (ls : List Line) → ((n : ℕ) → backups (n + r) f' s' ≡ back_up_lines p m ls (backups n f s))
-      → (All (Fit (length f)) part → length s ≡ length f → (n : ℕ) → backups (n + r) f' s' ≡ back_up_lines p m part (backups n f s)) → BacksUp p m (note x) f s f' s' r
+      → (AllByRecursion (Fit (length f)) part → length s ≡ length f → (n : ℕ) → backups (n + r) f' s' ≡ back_up_lines p m part (backups n f s)) → BacksUp p m (note x) f s f' s' r
   backs-up-lines few ls did fits =
       let sizes = size-lines p m ls (backups 0 f s) in
       record {
@@ -61,7 +61,7 @@ module _ (p : Plan) (m : ℕ) (x : Record) (k : ℕ) (is : k ≡ x.count) (kind 
         firsts = ap (λ (b : Backups). length b.firsts) (did 0) ∙ sizes.0;
         seconds = ap (λ (b : Backups). length b.seconds) (did 0) ∙ sizes.1;
         after = λ good long long' n.
-            fits (subst (λ (j : ℕ). All (Fit j) part) (sym long) (subst (All (Fit (size p))) (sym part-is) good.fit)) (long' ∙ sym long) n
+            fits (subst (λ (j : ℕ). AllByRecursion (Fit j) part) (sym long) (subst (AllByRecursion (Fit (size p))) (sym part-is) good.fit)) (long' ∙ sym long) n
             ∙ ap (λ (zs : List Line). back_up_lines p m zs (backups n f s)) (part-is ∙ sym (backup_lines-of x kind));
       }
 
@@ -84,10 +84,10 @@ backs-up-none p m x f s n = record {
 }
 
 -- the record at place i, and those of the loop so far
-first-holds : {X : Type 0} (P : X → Type 0) (xs : List X) (x : X) (rest : List X) → xs ≡ x ∷ rest → All P xs → P x
-first-holds P xs x rest e h = (subst (All P) e h).0
+first-holds : {X : Type 0} (P : X → Type 0) (xs : List X) (x : X) (rest : List X) → xs ≡ x ∷ rest → AllByRecursion P xs → P x
+first-holds P xs x rest e h = (subst (AllByRecursion P) e h).0
 
-pub lines_at : (p : Plan) (ns : List Note) (i : ℕ) (x : Record) → NextIs ns i (Some x) → All (λ r. Lines p r.lines) ns → Lines p (note x).lines
+pub lines_at : (p : Plan) (ns : List Note) (i : ℕ) (x : Record) → NextIs ns i (Some x) → AllByRecursion (λ r. Lines p r.lines) ns → Lines p (note x).lines
 lines_at p ns i x e h = first-holds (λ r. Lines p r.lines) (drop i ns) (note x) _ e (All-drop _ i ns h)
 
 module _ (p : Plan) (m i : ℕ) (log : Ring) (slots : List Record) (f s : Words) where

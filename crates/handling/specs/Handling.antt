@@ -1,6 +1,6 @@
 -- What a machine does with the record that it polls, and when that is what the protocol says.
 use Rattle.std.specs.Prelude.{◌≡◌, ℕ, suc, ◌+◌, ◌*◌, ◌<◌, ◌≤◌, Bool, true, false, cond, List, [], reverse, length, take}
-use Rattle.std.specs.List.{AllByRecursion as All}
+use Rattle.std.specs.List.{AllByRecursion}
 use Rattle.ring.specs.declared.Ring.{Ring}
 use Rattle.ring.specs.Contents.{Sound}
 use Rattle.protocol.specs.declared.plan.Plan.{Plan}
@@ -56,7 +56,7 @@ pub record BacksUp (p : Plan) (m : ℕ) (x : Note) (f s f' s' : Words) (r : ℕ)
 pub record SoundLog (p : Plan) (log : Ring) (slots : List Record) : Type 0 where
   pub stands : Sound log (length slots)
   pub few : length slots ≤ 16
-  pub lines : All (λ r. Lines p r.lines) (notes log slots)
+  pub lines : AllByRecursion (λ r. Lines p r.lines) (notes log slots)
 
 -- and the memories have the plan's words
 pub record Ready (p : Plan) (log : Ring) (slots : List Record) (a b d : Words) : Type 0 where

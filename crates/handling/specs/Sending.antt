@@ -1,6 +1,6 @@
 -- What a commit writes into the logs: to which machines, how many records, and what each says.
 use Rattle.std.specs.Prelude.{ℕ, ◌+◌, ◌-◌, ◌<◌, Bool, false, not, List, [], ◌∷◌, Some, None, Option, ◌==◌}
-use Rattle.std.specs.List.{AllByRecursion as All}
+use Rattle.std.specs.List.{AllByRecursion}
 use Rattle.protocol.specs.declared.plan.Plan.{Plan}
 use Rattle.protocol.specs.declared.record.Line.{Line}
 use Rattle.protocol.specs.declared.record.Kind.{Kind}
@@ -58,7 +58,7 @@ picked p Truncate m ws = []
 
 -- a byte has bits for eight regions of 64 addresses
 abbrev pub InEightRegions : List Line → Type 0
-InEightRegions ws = All (λ l. l.address < 512) ws
+InEightRegions ws = AllByRecursion (λ l. l.address < 512) ws
 
 -- the regions that a record of that kind names: LOCK and COMMIT-BACKUP alone name those written
 abbrev pub regions_in : Kind → List Line → ℕ

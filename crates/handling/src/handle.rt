@@ -1,6 +1,6 @@
 // What a machine does with the record that it polls.
 ghost use Rattle.std.specs.Prelude.{◌≡◌, ℕ, suc, ◌+◌, ◌<◌, ◌≤◌, List, reverse, length};
-ghost use Rattle.std.specs.List.{AllByRecursion as All};
+ghost use Rattle.std.specs.List.{AllByRecursion};
 ghost use Rattle.protocol.specs.Record.{note};
 ghost use Rattle.protocol.specs.Plan.{size};
 ghost use Rattle.protocol.specs.Lines.{install_lines, held_lines, free_lines, Backups, backups};

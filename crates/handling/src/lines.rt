@@ -1,6 +1,6 @@
 // What the lines of a record do to the memories. A line that does not fit a memory is passed over.
 ghost use Rattle.std.specs.Prelude.{◌≡◌, ℕ, ◌+◌, ◌≤◌, true, cond, ◌&&◌, length, if◌then◌else◌};
-ghost use Rattle.std.specs.List.{AllByRecursion as All};
+ghost use Rattle.std.specs.List.{AllByRecursion};
 ghost use Rattle.memory.specs.Words.{holds, lockable, freeable};
 ghost use Rattle.protocol.specs.Kept.{Apart};
 ghost use Rattle.protocol.specs.Lists.{all_by};
@@ -29,7 +29,7 @@ pub fn lock_lines<M: Memory>(memory: &mut M, lines: &[Line], holder: u8) -> bool
     ensures answers { result ≡ lockable_lines (M.words memory.old) holder lines.now }
     ensures after { M.words memory.new ≡ (if result then lock_lines (M.words memory.old) holder lines.now else M.words memory.old) }
     ensures held { result ≡ true → Held holder lines.now (M.words memory.old) (M.words memory.new) }
-    ensures all_fit { All (Fit (length (M.words memory.old))) lines.now → holds holder ≡ true → result ≡ all_by (is_current (M.words memory.old)) lines.now }
+    ensures all_fit { AllByRecursion (Fit (length (M.words memory.old))) lines.now → holds holder ≡ true → result ≡ all_by (is_current (M.words memory.old)) lines.now }
 {
     for line in lines {
         if !can_lock(memory, line, holder) {
@@ -57,7 +57,7 @@ fn install_line<M: Memory>(memory: &mut M, line: &Line) -> bool
 pub fn install_lines<M: Memory>(memory: &mut M, lines: &[Line]) -> usize
     ensures after { M.words memory.new ≡ install_lines (M.words memory.old) (fitting (length (M.words memory.old)) lines.now) }
     ensures counts { result ≡ length (fitting (length (M.words memory.old)) lines.now) }
-    ensures all_fit { All (Fit (length (M.words memory.old))) lines.now → (M.words memory.new ≡ install_lines (M.words memory.old) lines.now) × (result ≡ length lines.now) }
+    ensures all_fit { AllByRecursion (Fit (length (M.words memory.old))) lines.now → (M.words memory.new ≡ install_lines (M.words memory.old) lines.now) × (result ≡ length lines.now) }
 {
     let mut installed = 0;
     for line in lines {
@@ -78,7 +78,7 @@ fn free_line<M: Memory>(memory: &mut M, line: &Line, holder: u8) -> bool
 pub fn free_lines<M: Memory>(memory: &mut M, lines: &[Line], holder: u8) -> usize
     ensures after { M.words memory.new ≡ free_lines (M.words memory.old) (freed_lines (M.words memory.old) holder lines.now) }
     ensures counts { result ≡ length (freed_lines (M.words memory.old) holder lines.now) }
-    ensures all_fit { All (Fit (length (M.words memory.old))) lines.now → Apart lines.now → holds holder ≡ true → (M.words memory.new ≡ free_lines (M.words memory.old) (held_lines (M.words memory.old) holder lines.now)) × (result ≡ length (held_lines (M.words memory.old) holder lines.now)) }
+    ensures all_fit { AllByRecursion (Fit (length (M.words memory.old))) lines.now → Apart lines.now → holds holder ≡ true → (M.words memory.new ≡ free_lines (M.words memory.old) (held_lines (M.words memory.old) holder lines.now)) × (result ≡ length (held_lines (M.words memory.old) holder lines.now)) }
 {
     let mut freed = 0;
     for line in lines {
@@ -133,7 +133,7 @@ pub fn back_up_lines<F: Memory, S: Memory>(
         ≡ back_up_lines plan.now m (fitting_backup plan.now m (length (F.Memory.words firsts.old)) (length (S.Memory.words seconds.old)) lines.now)
         (backups n (F.Memory.words firsts.old) (S.Memory.words seconds.old)) }
     ensures few { result ≤ length lines.now }
-    ensures all_fit { All (Fit (length (F.Memory.words firsts.old))) lines.now → length (S.Memory.words seconds.old) ≡ length (F.Memory.words firsts.old)
+    ensures all_fit { AllByRecursion (Fit (length (F.Memory.words firsts.old))) lines.now → length (S.Memory.words seconds.old) ≡ length (F.Memory.words firsts.old)
         → (n : ℕ) → backups (n + result) (F.Memory.words firsts.new) (S.Memory.words seconds.new)
         ≡ back_up_lines plan.now m lines.now (backups n (F.Memory.words firsts.old) (S.Memory.words seconds.old)) }
 {

@@ -1,6 +1,6 @@
 -- What holds of a memory over any list of requests.
 use Rattle.std.proofs.Common.{◌≡◌, ℕ, zero, suc, ◌<◌, Bool, true, false, ◌&&◌, eqb, ltb, ◌≢◌, ◌⊎◌, List, [], ◌∷◌, length, get_or, drop, sym, refl, ap, ◌∙◌, subst, inl, inr, arith}
-use Rattle.std.specs.List.{AllByRecursion as All}
+use Rattle.std.specs.List.{AllByRecursion}
 use Rattle.std.proofs.lemmas.Bool.{and_parts, and_cases, and_right, eqb-true, eqb-false}
 use Rattle.std.proofs.lemmas.Bool.Decides.{nat_tests}
 use Rattle.memory.specs.declared.request.Request.{Request}
@@ -72,16 +72,16 @@ length-after-all : (ws : List Word) (qs : List Request) → length (words_after_
 length-after-all ws [] = refl
 length-after-all ws (q ∷ qs) = length-after-all (words_after ws q) qs ∙ length-after ws q
 
-apart-all : (ws : List Word) (qs : List Request) (a : ℕ) → All (λ q. names a q ≡ false) qs → at (words_after_all ws qs) a ≡ at ws a
+apart-all : (ws : List Word) (qs : List Request) (a : ℕ) → AllByRecursion (λ q. names a q ≡ false) qs → at (words_after_all ws qs) a ≡ at ws a
 apart-all ws [] a none = refl
 apart-all ws (q ∷ qs) a (one, rest) = apart-all (words_after ws q) qs a rest ∙ kept-apart ws a q one
 
-held_all : (ws : List Word) (qs : List Request) (a : ℕ) → 0 < (at ws a).holder → All (λ q. releases a (at ws a).holder q ≡ false) qs →
+held_all : (ws : List Word) (qs : List Request) (a : ℕ) → 0 < (at ws a).holder → AllByRecursion (λ q. releases a (at ws a).holder q ≡ false) qs →
     (at (words_after_all ws qs) a ≡ at ws a) × ((k v h : ℕ) → get_or qs k Size ≡ Lock a v h → get_or (responses ws qs) k (Done true) ≡ Done false)
 held_all ws [] a held none = (refl, λ k v h e. absurd (grind arith))
 held_all ws (q ∷ qs) a held (one, rest) =
     let same : at (words_after ws q) a ≡ at ws a = kept-held ws a held q one in
-    let keeps = subst (λ (w : Word). All (λ p. releases a w.holder p ≡ false) qs) (sym same) rest in
+    let keeps = subst (λ (w : Word). AllByRecursion (λ p. releases a w.holder p ≡ false) qs) (sym same) rest in
     let later = held_all (words_after ws q) qs a (rw same held) keeps in
     (later.0 ∙ same, refused later.1)
   where
@@ -91,7 +91,7 @@ held_all ws (q ∷ qs) a held (one, rest) =
     refused later (suc k) v h e = later k v h e
 
 released-all : (ws : List Word) (qs : List Request) (k a h : ℕ) → releases a h (get_or qs k Size) ≡ true → get_or (responses ws qs) k (Done false) ≡ Done true →
-    All (λ q. names a q ≡ false) (drop (suc k) qs) → (v g : ℕ) → lockable (words_after_all ws qs) a v g ≡ (eqb (at (words_after_all ws qs) a).version v && holds g)
+    AllByRecursion (λ q. names a q ≡ false) (drop (suc k) qs) → (v g : ℕ) → lockable (words_after_all ws qs) a v g ≡ (eqb (at (words_after_all ws qs) a).version v && holds g)
 released-all ws [] k a h r e rest v g = absurd (grind arith)
 released-all ws (q ∷ qs) zero a h r e rest v g =
     let freed = released-by ws a h q r e in

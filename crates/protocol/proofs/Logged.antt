@@ -1,6 +1,6 @@
 -- Every call keeps the lines in the logs: their words are there, their versions have one after them, and no two have one address.
 use Rattle.std.proofs.Common.{ℕ, ◌<◌, Bool, true, false, cond, ◌≢◌, List, [], ◌∷◌, subst}
-use Rattle.std.specs.List.{AllByRecursion as All}
+use Rattle.std.specs.List.{AllByRecursion}
 use Rattle.std.proofs.ByRecursion.{All-push}
 use Rattle.protocol.specs.declared.plan.Plan.{Plan}
 use Rattle.protocol.specs.declared.record.Line.{Line}
@@ -18,11 +18,11 @@ use Rattle.protocol.proofs.Functions.{upd-each}
 use Rattle.protocol.proofs.Moves.{Move, Next, opens, reads-again, reads-new, writes_again, writes-new, abandons, commits, sends-lock, sends-backup, sends-primary, sends-abort, locks, denies, keeps-backup, installs, frees, truncates, takes_one, takes-denied, takes-last, check-fails, check-passes, check-commits, check-ends, trims}
 
 -- A part of a list that is apart.
-all-if : {X : Type 0} (P : X → Type 0) (b : Bool) (l : X) (ls : List X) → P l → All P ls → All P (cond b (l ∷ ls) ls)
+all-if : {X : Type 0} (P : X → Type 0) (b : Bool) (l : X) (ls : List X) → P l → AllByRecursion P ls → AllByRecursion P (cond b (l ∷ ls) ls)
 all-if P true l ls h t = (h, t)
 all-if P false l ls h t = t
 
-pub all_filter : {X : Type 0} (P : X → Type 0) (test : X → Bool) (ls : List X) → All P ls → All P (filter test ls)
+pub all_filter : {X : Type 0} (P : X → Type 0) (test : X → Bool) (ls : List X) → AllByRecursion P ls → AllByRecursion P (filter test ls)
 all_filter P test [] h = tt
 all_filter P test (l ∷ ls) h = all-if P (test l) l (filter test ls) h.0 (all_filter P test ls h.1)
 
@@ -51,7 +51,7 @@ record-lines p c k Truncate m h = lines_none p
 
 -- the lines of the records, polled and not
 abbrev Fine : Plan → List Note → Type 0
-Fine p rs = All (λ (r : Note). Lines p r.lines) rs
+Fine p rs = AllByRecursion (λ (r : Note). Lines p r.lines) rs
 
 record Logged (p : Plan) (g : Log) : Type 0 where
   polled : Fine p g.polled

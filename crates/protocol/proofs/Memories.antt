@@ -1,6 +1,6 @@
 -- Every call leaves each memory with the plan's words, at versions below 2^60.
 use Rattle.std.proofs.Common.{ℕ, suc, ◌+◌, ◌^◌, ◌<◌, Bool, true, false, cond, eqb, List, [], ◌∷◌, length, set, Some, Option, sym, ap, ◌∙◌, subst, ⊎_elim}
-use Rattle.std.specs.List.{AllByRecursion as All}
+use Rattle.std.specs.List.{AllByRecursion}
 use Rattle.std.proofs.lemmas.List.{length-set, set_past, get_or-set_same, get_or-set_other}
 use Rattle.std.proofs.lemmas.Bool.{cases_eq, cases_lt}
 use Rattle.memory.specs.declared.word.Word.{Word}
@@ -51,7 +51,7 @@ module _ (p : Plan) where
   free-proper ws [] h = h
   free-proper ws (l ∷ ls) h = free-proper (hold ws 0 l.address) ls (hold-proper p ws h 0 l.address)
 
-  pub install-proper : (ws : Words) (ls : List Line) → All (Fits p) ls → ProperWords p ws → ProperWords p (install_lines ws ls)
+  pub install-proper : (ws : Words) (ls : List Line) → AllByRecursion (Fits p) ls → ProperWords p ws → ProperWords p (install_lines ws ls)
   install-proper ws [] f h = h
   install-proper ws (l ∷ ls) f h =
       install-proper (put ws l.address (l.version + 1) l.value) ls f.1 (put-proper p ws h l.address (l.version + 1) l.value f.0.1)
@@ -71,7 +71,7 @@ module _ (p : Plan) where
   back_up-proper true l b f h = record { firsts = renew-proper b.firsts l f h.firsts; seconds = h.seconds }
   back_up-proper false l b f h = record { firsts = h.firsts; seconds = renew-proper b.seconds l f h.seconds }
 
-  pub lines-proper : (m : ℕ) (ls : List Line) (b : Backups) → All (Fits p) ls → ProperBackups b → ProperBackups (back_up_lines p m ls b)
+  pub lines-proper : (m : ℕ) (ls : List Line) (b : Backups) → AllByRecursion (Fits p) ls → ProperBackups b → ProperBackups (back_up_lines p m ls b)
   lines-proper m [] b f h = h
   lines-proper m (l ∷ ls) b f h =
       let first = eqb (home_of p l.address).first m in lines-proper m ls (back_up first l b) f.1 (back_up-proper first l b f.0 h)
@@ -81,7 +81,7 @@ module _ (p : Plan) where
   lines-if false ls h = lines_none p
 
   abbrev Fine : List Note → Type 0
-  Fine rs = All (λ (r : Note). Lines p r.lines) rs
+  Fine rs = AllByRecursion (λ (r : Note). Lines p r.lines) rs
 
   pub records-proper : (m : ℕ) (rs : List Note) (b : Backups) → Fine rs → ProperBackups b → ProperBackups (back_up_records p m rs b)
   records-proper m [] b f h = h

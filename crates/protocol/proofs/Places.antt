@@ -1,6 +1,6 @@
 -- What the invariant gives to the calls: a place for each record and reply that is written, and lines whose words are there.
 use Rattle.std.proofs.Common.{◌≡◌, ℕ, ◌+◌, ◌/◌, ◌<◌, ◌≤◌, Bool, true, false, cond, not, ◌||◌, eqb, List, [], ◌∷◌, length, refl, ap, subst, arith}
-use Rattle.std.specs.List.{AllByRecursion as All}
+use Rattle.std.specs.List.{AllByRecursion}
 use Rattle.std.proofs.lemmas.List.{nil_from_length}
 use Rattle.std.proofs.ByRecursion.{All-weaker}
 use Rattle.std.proofs.lemmas.Bool.{or_right}
@@ -91,10 +91,10 @@ module _ (p : Plan) (k : Coordinator) (inv : Invariant p k) where
 
       -- the lines of the record that is polled next
       pub next-lines : Lines p r.lines
-      next-lines = let all : All (λ (s : Note). Lines p s.lines) (r ∷ rest) = subst (All (λ (s : Note). Lines p s.lines)) next (inv.waiting m there) in all.0
+      next-lines = let all : AllByRecursion (λ (s : Note). Lines p s.lines) (r ∷ rest) = subst (AllByRecursion (λ (s : Note). Lines p s.lines)) next (inv.waiting m there) in all.0
 
   -- the regions of the written words are there
-  pub written-regions : All (λ (w : Line). w.address / 64 < p.regions) k.writes
+  pub written-regions : AllByRecursion (λ (w : Line). w.address / 64 < p.regions) k.writes
   written-regions = All-weaker (Fits p) (λ (w : Line). w.address / 64 < p.regions) (λ w h. omega arith) k.writes inv.writes_fit.fit
 
   -- a record has four lines at most

@@ -1,6 +1,6 @@
 -- Every call keeps the words read and written by a transaction: few, there, no address twice, and the written ones read before.
 use Rattle.std.proofs.Common.{◌≡◌, ℕ, ◌+◌, ◌-◌, ◌^◌, ◌<◌, ◌≤◌, Bool, true, false, cond, eqb, ◌≢◌, ◌⊎◌, List, [], ◌∷◌, length, Some, None, Option, sym, refl, ap, ◌∙◌, subst, inl, inr, ⊎_elim, arith}
-use Rattle.std.specs.List.{AllByRecursion as All}
+use Rattle.std.specs.List.{AllByRecursion}
 use Rattle.std.proofs.lemmas.List.{length-append}
 use Rattle.std.proofs.ByRecursion.{All-push, All-weaker}
 use Rattle.std.proofs.lemmas.Bool.{eqb-true, eqb-false}
@@ -29,13 +29,13 @@ either : {X : Type 0} (b : Bool) (x y : X) (rest : Option X) → cond b (Some x)
 either true x y rest e = inl (refl, cc)
 either false x y rest e = inr e
 
-pub line-at-none : (a : ℕ) (ls : List Line) → line_at a ls ≡ None → All (λ (l : Line). l.address ≢ a) ls
+pub line-at-none : (a : ℕ) (ls : List Line) → line_at a ls ≡ None → AllByRecursion (λ (l : Line). l.address ≢ a) ls
 line-at-none a [] e = tt
 line-at-none a (l ∷ ls) e =
     let both = neither (eqb l.address a) l (line_at a ls) e in (eqb-false l.address a both.0, line-at-none a ls both.1)
 
 -- what is found has the address, and what holds of all lines
-pub line-at-some : (P : Line → Type 0) (a : ℕ) (ls : List Line) (r : Line) → line_at a ls ≡ Some r → All P ls → (r.address ≡ a) × P r
+pub line-at-some : (P : Line → Type 0) (a : ℕ) (ls : List Line) (r : Line) → line_at a ls ≡ Some r → AllByRecursion P ls → (r.address ≡ a) × P r
 line-at-some P a [] r e h = absurd (none-there e)
 line-at-some P a (l ∷ ls) r e h = ⊎_elim
     (λ b. subst (λ (k : Line). (k.address ≡ a) × P k) b.1 (eqb-true l.address a b.0, h.0))
@@ -51,7 +51,7 @@ pub line-at-snoc : (a : ℕ) (ls : List Line) (l r : Line) → line_at a ls ≡ 
 line-at-snoc a [] l r e = absurd (none-there e)
 line-at-snoc a (k ∷ ls) l r e = same-found (eqb k.address a) k r (line_at a ls) (line_at a (snoc ls l)) e (line-at-snoc a ls l r)
 
-pub apart_snoc : (ls : List Line) (l : Line) → Apart ls → All (λ (k : Line). k.address ≢ l.address) ls → Apart (snoc ls l)
+pub apart_snoc : (ls : List Line) (l : Line) → Apart ls → AllByRecursion (λ (k : Line). k.address ≢ l.address) ls → Apart (snoc ls l)
 apart_snoc [] l h n = (tt, tt)
 apart_snoc (k ∷ ls) l h n = (All-push (λ (j : Line). k.address ≢ j.address) ls l h.0 n.0, apart_snoc ls l h.1 n.1)
 
@@ -60,7 +60,7 @@ pub length-rewrite : (ls : List Line) (a v : ℕ) → length (rewrite ls a v) �
 length-rewrite [] a v = refl
 length-rewrite (l ∷ ls) a v = omega (arith, length-rewrite ls a v)
 
-all-rewrite : (P : ℕ → ℕ → Type 0) (ls : List Line) (a v : ℕ) → All (λ (l : Line). P l.address l.version) ls → All (λ (l : Line). P l.address l.version) (rewrite ls a v)
+all-rewrite : (P : ℕ → ℕ → Type 0) (ls : List Line) (a v : ℕ) → AllByRecursion (λ (l : Line). P l.address l.version) ls → AllByRecursion (λ (l : Line). P l.address l.version) (rewrite ls a v)
 all-rewrite P [] a v h = tt
 all-rewrite P (l ∷ ls) a v h = (h.0, all-rewrite P ls a v h.1)
 
@@ -77,11 +77,11 @@ Found rs a version = (r : Line) × (line_at a rs ≡ Some r) × (r.version ≡ v
 
 pub record Transaction (p : Plan) (rs ws : List Line) : Type 0 where
   pub reads_few : length rs ≤ 8
-  pub reads_fit : All (WasRead p) rs
+  pub reads_fit : AllByRecursion (WasRead p) rs
   pub reads_apart : Apart rs
   pub writes_few : length ws ≤ 4
   pub writes_fit : Lines p ws
-  pub writes_read : All (λ (w : Line). Found rs w.address w.version) ws
+  pub writes_read : AllByRecursion (λ (w : Line). Found rs w.address w.version) ws
 
 none_yet : (p : Plan) → Transaction p [] []
 none_yet p =
@@ -122,7 +122,7 @@ module _ (p : Plan) (rs ws : List Line) (t : Transaction p rs ws) where
       let there = line-at-some (WasRead p) a rs r read t.reads_fit in
       let l = line r.address r.version v in
       let fits : Fits p l = (there.1.0, omega (arith, there.1.1)) in
-      let absent : All (λ (k : Line). k.address ≢ r.address) ws = subst (λ b. All (λ (k : Line). k.address ≢ b) ws) (sym there.0) (line-at-none a ws new) in
+      let absent : AllByRecursion (λ (k : Line). k.address ≢ r.address) ws = subst (λ b. AllByRecursion (λ (k : Line). k.address ≢ b) ws) (sym there.0) (line-at-none a ws new) in
       let found : line_at r.address rs ≡ Some r = ap (λ b. line_at b rs) there.0 ∙ read in
       record {
         reads_few = t.reads_few;

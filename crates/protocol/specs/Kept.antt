@@ -1,6 +1,6 @@
 -- The protocol's invariant: what every call keeps of a coordinator.
 use Rattle.std.specs.Prelude.{◌≡◌, ℕ, suc, ◌+◌, ◌^◌, ◌<◌, ◌≤◌, true, ◌≢◌, List, [], ◌∷◌, length, Some, Ok}
-use Rattle.std.specs.List.{AllByRecursion as All}
+use Rattle.std.specs.List.{AllByRecursion}
 use Rattle.memory.specs.Words.{at}
 use Rattle.protocol.specs.declared.plan.Plan.{Plan}
 use Rattle.protocol.specs.declared.record.Line.{Line}
@@ -22,7 +22,7 @@ Fits p l = (l.address < size p) × (l.version + 1 < 2 ^ 60)
 
 -- no line has the address
 abbrev pub Absent : ℕ → List Line → Type 0
-Absent a ls = All (λ l. a ≢ l.address) ls
+Absent a ls = AllByRecursion (λ l. a ≢ l.address) ls
 
 -- no two lines have one address
 abbrev pub Apart : List Line → Type 0
@@ -31,7 +31,7 @@ Apart (l ∷ ls) = Absent l.address ls × Apart ls
 
 -- the lines of a record, and of the written words
 pub record Lines (p : Plan) (ls : List Line) : Type 0 where
-  pub fit : All (Fits p) ls
+  pub fit : AllByRecursion (Fits p) ls
   pub apart : Apart ls
 
 -- LOCKs not yet polled, which are still to be replied to
@@ -84,16 +84,16 @@ pub record Invariant (p : Plan) (k : Coordinator) : Type 0 where
   -- the machines still due a record are of the plan's, each once, the lowest first
   pub due : Rising 0 p.machines (machines_due k.phase)
   -- the lines in the logs
-  pub polled : (m : ℕ) → m < p.machines → All (λ r. Lines p r.lines) (log k m).polled
-  pub waiting : (m : ℕ) → m < p.machines → All (λ r. Lines p r.lines) (log k m).waiting
+  pub polled : (m : ℕ) → m < p.machines → AllByRecursion (λ r. Lines p r.lines) (log k m).polled
+  pub waiting : (m : ℕ) → m < p.machines → AllByRecursion (λ r. Lines p r.lines) (log k m).waiting
   -- at most eight words read, none twice
   pub reads_few : length k.reads ≤ 8
-  pub reads_fit : All (λ r. (r.address < size p) × (r.version < 2 ^ 60)) k.reads
+  pub reads_fit : AllByRecursion (λ r. (r.address < size p) × (r.version < 2 ^ 60)) k.reads
   pub reads_apart : Apart k.reads
   -- at most four words written, each read before at the version that its line has
   pub writes_few : length k.writes ≤ 4
   pub writes_fit : Lines p k.writes
-  pub writes_read : All (λ w. (r : Line) × (line_at w.address k.reads ≡ Some r) × (r.version ≡ w.version)) k.writes
+  pub writes_read : AllByRecursion (λ w. (r : Line) × (line_at w.address k.reads ≡ Some r) × (r.version ≡ w.version)) k.writes
 
 -- a memory has the plan's words, each with a version below 2^60
 pub record ProperWords (p : Plan) (ws : Words) : Type 0 where

@@ -1,7 +1,7 @@
 -- Entries that were written as a file are read back.
 use Rattle.std.proofs.Common.{◌≡◌, ℕ, ◌+◌, ◌*◌, ◌/◌, ◌%◌, ◌<◌, true, leb, List, [], ◌∷◌, ◌++◌, length, get_or, take, drop, None, Ok, sym, refl, ap, ◌∙◌, subst, arith, length-append}
 use lib.Seq.{drop-append-add}
-use Rattle.std.specs.List.{flat_map, AllByRecursion as All}
+use Rattle.std.specs.List.{flat_map, AllByRecursion}
 use Rattle.std.proofs.lemmas.List.{append-nil, append_assoc, get_or_at, get_or-append-add, take_at}
 use Rattle.std.proofs.lemmas.Bool.{le-leb, lt-leb, cond-true, cond-false}
 use Rattle.steps.specs.Bytes.{two_at}
@@ -54,7 +54,7 @@ one-call file i j e es l q b = (
   ap (reached (length es)) q ∙ b.1,
 )
 
-back : (pre : List ℕ) (es : List (List ℕ)) → All (λ e. length e < 65536) es → Back (pre ++ flat_map with_length es) (length pre) es
+back : (pre : List ℕ) (es : List (List ℕ)) → AllByRecursion (λ e. length e < 65536) es → Back (pre ++ flat_map with_length es) (length pre) es
 unfolding Back handed reached
 back pre [] h = (refl, ap (λ n. at (pre ++ []) n) (ap length (sym (append-nil pre))))
 back pre (e ∷ es) h =

@@ -1,6 +1,6 @@
 -- What reading a file and writing one have to do with each other.
 use Rattle.std.specs.Prelude.{◌≡◌, ℕ, zero, suc, ◌<◌, List, [], ◌∷◌, ◌++◌, length, take, Some, None, Ok, Err, Option, Result}
-use Rattle.std.specs.List.{AllByRecursion as All}
+use Rattle.std.specs.List.{AllByRecursion}
 use Rattle.steps.specs.declared.fault.FrameFault.{FrameFault}
 use Rattle.steps.specs.Frames.{Framed, Position, entry_at, passed}
 use Rattle.steps.specs.Writing.{written}
@@ -33,4 +33,4 @@ pub record HandsOut (es : List (List ℕ)) (start : Position) : Type 0 where
 -- any entries whose lengths fit two bytes, written as a file, are read back as they were
 abbrev pub ReadsBack : List ℕ → Position → Type 0
 ReadsBack bytes start =
-    (es : List (List ℕ)) → All (λ e. length e < 65536) es → bytes ≡ written es → HandsOut es start
+    (es : List (List ℕ)) → AllByRecursion (λ e. length e < 65536) es → bytes ≡ written es → HandsOut es start
