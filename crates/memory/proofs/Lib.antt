@@ -1,4 +1,6 @@
 pub mod Blanks
 pub mod Changes
+pub mod Joining
 pub mod Laws
+pub mod Packing
 pub mod Requests

@@ -7,3 +7,4 @@ pub mod Requests
 pub mod Words
 pub mod Joining
 pub mod PackingLemmas
+pub mod Sizing

@@ -11,8 +11,8 @@ use Rattle.protocol.specs.Step.{run, set_up}
 
 -- one region, on machines 0, 1 and 2, with logs of the given capacity
 abbrev pub plan_of : ℕ → ℕ → Plan
-plan_of capacity start-version =
-    record { machines = 3; coordinators = 2; regions = 1; capacity = capacity; start = start-version; first = 1; homes = replicate 8 (record { primary = 0; first = 1; second = 2 }); eight = refl }
+plan_of capacity start_version =
+    record { machines = 3; coordinators = 2; regions = 1; capacity = capacity; start = start_version; first = 1; homes = replicate 8 (record { primary = 0; first = 1; second = 2 }); eight = refl }
 
 abbrev pub plan_A : Plan
 plan_A = plan_of 4 7

@@ -27,10 +27,10 @@ abbrev pub Caused : Plan → Words → Words → Words → Unmade → Type 0
 Caused p a b d (Refused n) = set_up p (has_fitting_memories p a b d) ≡ Err n
 Caused p a b d NoMemory = is_fine p ≡ true
 
-module _ {P F S : Type 0} (words-p : P → Words) (words-f : F → Words) (words-s : S → Words) (p : Plan) (primaries : P) (firsts : F) (seconds : S) where
+module _ {P F S : Type 0} (words_p : P → Words) (words_f : F → Words) (words_s : S → Words) (p : Plan) (primaries : P) (firsts : F) (seconds : S) where
   -- a directory in the protocol's start, or the memories with the words that they had, and the cause
   abbrev pub Makes : Result (Directory P F S) (HandedBack P F S) → Type 0
   Makes (Ok d) =
-      (d.plan ≡ p) × (set_up p (has_fitting_memories p (words-p primaries) (words-f firsts) (words-s seconds)) ≡ Ok (size p)) × Ready p (owned words-p words-f words-s d)
+      (d.plan ≡ p) × (set_up p (has_fitting_memories p (words_p primaries) (words_f firsts) (words_s seconds)) ≡ Ok (size p)) × Ready p (owned words_p words_f words_s d)
   Makes (Err h) =
-      (words-p h.primaries ≡ words-p primaries) × (words-f h.firsts ≡ words-f firsts) × (words-s h.seconds ≡ words-s seconds) × Caused p (words-p primaries) (words-f firsts) (words-s seconds) h.cause
+      (words_p h.primaries ≡ words_p primaries) × (words_f h.firsts ≡ words_f firsts) × (words_s h.seconds ≡ words_s seconds) × Caused p (words_p primaries) (words_f firsts) (words_s seconds) h.cause

@@ -3,8 +3,7 @@ ghost use Rattle.memory.specs.Make.{sizeable, packable, Making, Taking};
 ghost use Rattle.memory.specs.Meanings.{packed_words};
 ghost use Rattle.memory.specs.Packing.{unpacked};
 ghost use Rattle.memory.specs.Words.{at, blanks, Proper};
-ghost use Rattle.std.proofs.Common.{arith};
-ghost use Rattle.memory.specs.PackingLemmas.{length-unpacked, unpacked-proper};
+ghost use Rattle.memory.specs.PackingLemmas.{unpacked-proper, unpacked-sized};
 
 use super::Packed;
 use super::bytes::{load, store};
@@ -87,10 +86,7 @@ impl Packed {
 impl Memory for Packed {
     ghost words = { packed_words };
 
-    ghost sized = { λ m.
-        let long = length-unpacked m.bytes.items in
-        let held = m.bytes.ok.0 in
-        (omega arith, omega arith) };
+    ghost sized = { λ m. unpacked-sized m.bytes.items m.bytes.len m.bytes.ok.0 m.some m.few };
 
     ghost proper = { λ m. unpacked-proper m.bytes.items };
 

@@ -1,4 +1,4 @@
-use Rattle.memory.specs.Joining.{placed}
+use Rattle.memory.proofs.Joining.{placed}
 use Rattle.memory.proofs.joined.Joined.place.Goals as goal
 
 pub returns : goal.returns

@@ -1,5 +1,5 @@
 use Rattle.std.proofs.Common.{◌∙◌, arith}
-use Rattle.memory.specs.PackingLemmas.{number-of-bytes, stored}
+use Rattle.memory.proofs.Packing.{number-of-bytes, stored}
 use Rattle.memory.proofs.packed.bytes.store.Goals as goal
 
 pub returns : goal.returns
