@@ -37,7 +37,7 @@ at_five f (suc (suc (suc (suc zero)))) l = refl
 at_five f (suc (suc (suc (suc (suc m))))) l = absurd (omega arith)
 
 -- t is the transaction after, and old before
-module _ (p : Plan) (few : p.machines ≤ 5) (old t : Work) (is : t.phase ≡ phase_by old.nreads old.nwrites) (same_Reads : reads_of t ≡ reads_of old) (same_writes : writes_of t ≡ writes_of old)
+module _ (p : Plan) (few : p.machines ≤ 5) (old t : Work) (is : t.phase ≡ phase_by old.nreads old.nwrites) (same_reads : reads_of t ≡ reads_of old) (same_writes : writes_of t ≡ writes_of old)
     (due : t.due ≡ 0) (denied : t.denied ≡ false) (passed : t.passed ≡ 0) (awaited : t.awaited ≡ five (is_at_primary p (writes_of old))) where
   abbrev rs : List Line
   rs = reads_of old
@@ -71,7 +71,7 @@ module _ (p : Plan) (few : p.machines ≤ 5) (old t : Work) (is : t.phase ≡ ph
   as-checking none =
       ap protocol.Checking
       (ap (λ (d : ℕ). read_only (drop d (reads_of t)) (writes_of t)) passed
-      ∙ ap (λ (ls : List Line). read_only (reads_of t) ls) (same_writes ∙ none) ∙ all-read-only (reads_of t) ∙ same_Reads)
+      ∙ ap (λ (ls : List Line). read_only (reads_of t) ls) (same_writes ∙ none) ∙ all-read-only (reads_of t) ∙ same_reads)
 
   by_cases : (x y : Bool) → (x ≡ true → ws ≡ []) → phase_of p t (cond x (cond y Idle Checking) Locking) ≡ cond x (cond y protocol.Idle (protocol.Checking rs)) lock_all
   unfolding phase_of
@@ -86,4 +86,4 @@ module _ (p : Plan) (few : p.machines ≤ 5) (old t : Work) (is : t.phase ≡ ph
       ∙ sym (phase_by-counts p rs ws old.nreads old.nwrites (count-reads old) (count-writes old))
 
   pub begins : (n : Option ℕ) → t.next ≡ n → StandsFor p t (first_phase p rs ws) (next_of n) rs ws
-  begins n e = record { phase = begun-phase; next = ap next_of e; reads = same_Reads; writes = same_writes }
+  begins n e = record { phase = begun-phase; next = ap next_of e; reads = same_reads; writes = same_writes }

@@ -1,5 +1,5 @@
 -- The lent tables and memories, and the protocol's state that they stand for.
-use Rattle.std.specs.Prelude.{ℕ, ◌-◌, ◌*◌, ◌^◌, Bool, false, ◌&&◌, List, [], reverse, length, get_or, take, drop, Some, None, Option, ◌==◌, nat_le, slice_index_or}
+use Rattle.std.specs.Prelude.{ℕ, ◌-◌, ◌*◌, ◌^◌, Bool, false, ◌&&◌, List, [], reverse, length, take, drop, Some, None, Option, ◌==◌, nat_le, slice_index_or}
 use Rattle.ring.specs.declared.Ring.{Ring}
 use Rattle.ring.specs.Contents.{contents}
 use Rattle.ring.specs.Rings.{mapi, row}
@@ -46,7 +46,7 @@ due_from p d test = filter test (counting d (p.machines - d))
 
 -- the machines whose reply is awaited
 abbrev pub awaited_of : Plan → Work → List ℕ
-awaited_of p t = filter (λ m. get_or t.awaited m false) (machine_list p)
+awaited_of p t = filter (λ m. slice_index_or t.awaited m false) (machine_list p)
 
 -- a phase with the data that it has in that phase; what the other fields hold does not matter
 unfoldable pub phase_of : Plan → Work → Phase → protocol.Phase

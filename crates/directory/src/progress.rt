@@ -1,5 +1,5 @@
 // How a transaction goes on after a reply and after a check.
-ghost use Rattle.std.specs.Prelude.{◌≡◌, ◌<◌, ◌≤◌, not, is_some, if◌then◌else◌, nat_eq};
+ghost use Rattle.std.specs.Prelude.{◌≡◌, ◌<◌, ◌≤◌, not, is_some, if◌then◌else◌, ◌==◌};
 ghost use Rattle.protocol.specs.Lists.{all_by, is_empty};
 ghost use Rattle.protocol.specs.Coordinator.{line_at};
 ghost use Rattle.directory.specs.declared.tables.Phase.TheVariants.{Idle};
@@ -64,7 +64,7 @@ impl Work {
 
     // The same, but a transaction that wrote nothing is over.
     fn enter_or_end(&mut self, phase: Phase)
-        ensures { Enters self.old self.new (if nat_eq self.old.nwrites 0 then Idle else phase) }
+        ensures { Enters self.old self.new (if self.old.nwrites == 0 then Idle else phase) }
     {
         self.enter(if self.nwrites == 0 {
             Phase::Idle

@@ -28,9 +28,9 @@ pub record Picks {X : Type 0} (f : X → Bool) (xs : List X) (i k n : ℕ) (plac
   pub long : length places ≡ k
   pub front : length xs ≤ k → take n places ≡ filter f (take i xs)
 
-module _ {X : Type 0} (f : X → Bool) (xs : List X) (i k n : ℕ) (d : X) (places : List X) (before : Picks f xs i k n places) (in_List : i < length xs) where
+module _ {X : Type 0} (f : X → Bool) (xs : List X) (i k n : ℕ) (d : X) (places : List X) (before : Picks f xs i k n places) (in_list : i < length xs) where
   next : (t : Bool) → f (get_or xs i d) ≡ t → filter f (take (i + 1) xs) ≡ cond t (snoc (filter f (take i xs)) (get_or xs i d)) (filter f (take i xs))
-  next t e = rw add-one (filter-suc f xs i d in_List) ∙ ap (λ u. cond u (snoc (filter f (take i xs)) (get_or xs i d)) (filter f (take i xs))) e
+  next t e = rw add-one (filter-suc f xs i d in_list) ∙ ap (λ u. cond u (snoc (filter f (take i xs)) (get_or xs i d)) (filter f (take i xs))) e
 
   pub picks_more : (n' : ℕ) (places' : List X) → n' ≡ n + 1 → places' ≡ set places n (get_or xs i d) → n < k → f (get_or xs i d) ≡ true → Picks f xs (i + 1) k n' places'
   picks_more n' places' is wrote l e = record {

@@ -1,5 +1,5 @@
 // What the lines of a record do to the memories. A line that does not fit a memory is passed over.
-ghost use Rattle.std.specs.Prelude.{◌≡◌, ℕ, ◌+◌, ◌≤◌, true, cond, ◌&&◌, length, if◌then◌else◌};
+ghost use Rattle.std.specs.Prelude.{◌≡◌, ℕ, ◌+◌, ◌≤◌, true, ◌&&◌, length, if◌then◌else◌};
 ghost use Rattle.std.specs.List.{AllByRecursion};
 ghost use Rattle.memory.specs.Words.{holds, lockable, freeable};
 ghost use Rattle.protocol.specs.Kept.{Apart};
@@ -110,9 +110,9 @@ fn back_up_line<F: Memory, S: Memory>(
     seconds: &mut S,
 ) -> bool
     ensures { (n : ℕ) → backups (n + (if result then 1 else 0)) (F.Memory.words firsts.new) (S.Memory.words seconds.new)
-        ≡ cond (is_fit_backup plan.now m (length (F.Memory.words firsts.old)) (length (S.Memory.words seconds.old)) line.now)
-        (back_up (is_first_backup plan.now m line.now) line.now (backups n (F.Memory.words firsts.old) (S.Memory.words seconds.old)))
-        (backups n (F.Memory.words firsts.old) (S.Memory.words seconds.old)) }
+        ≡ (if is_fit_backup plan.now m (length (F.Memory.words firsts.old)) (length (S.Memory.words seconds.old)) line.now
+        then back_up (is_first_backup plan.now m line.now) line.now (backups n (F.Memory.words firsts.old) (S.Memory.words seconds.old))
+        else backups n (F.Memory.words firsts.old) (S.Memory.words seconds.old)) }
 {
     if home(plan, line.address).first == m {
         renew_line(firsts, line)

@@ -1,5 +1,5 @@
 -- A coordinator: its phase, its transaction, its logs and its reply queues.
-use Rattle.std.specs.Prelude.{ℕ, Bool, true, false, List, [], Option, nat_eq}
+use Rattle.std.specs.Prelude.{ℕ, Bool, true, false, List, [], Option, ◌==◌}
 use Rattle.protocol.specs.declared.record.Line.{Line}
 use Rattle.protocol.specs.declared.record.Reply.{Reply}
 use Rattle.protocol.specs.declared.plan.Plan.{Plan}
@@ -59,7 +59,7 @@ with_record k m r = with_log k m (append (log k m) r)
 
 -- the line of an address, if there is one
 abbrev pub line_at : ℕ → List Line → Option Line
-line_at a ls = find (λ l. nat_eq l.address a) ls
+line_at a ls = find (λ l. l.address == a) ls
 
 abbrev pub is_idle : Phase → Bool
 is_idle Idle = true

@@ -14,8 +14,8 @@ abbrev pub plan_of : ℕ → ℕ → Plan
 plan_of capacity start_version =
     record { machines = 3; coordinators = 2; regions = 1; capacity = capacity; start = start_version; first = 1; homes = replicate 8 (record { primary = 0; first = 1; second = 2 }); eight = refl }
 
-abbrev pub plan_A : Plan
-plan_A = plan_of 4 7
+abbrev pub plan_a : Plan
+plan_a = plan_of 4 7
 
 -- an answer: refusal, two numbers, outcome
 abbrev pub row : ℕ → ℕ → ℕ → ℕ → List ℕ
@@ -71,31 +71,31 @@ one_denied = (Open 1 ∷ Read 1 5 ∷ Write 1 5 113 ∷ Commit 1 ∷ Send 1 ∷ 
 
 pub record Examples : Type 0 where
   -- a set-up, and one commit of one word from open to install
-  pub set_up : setup_answer plan_A ≡ row 0 64 0 0
+  pub set_up : setup_answer plan_a ≡ row 0 64 0 0
   pub one_commit :
-      answers plan_A (install_one 0 5 112 ++ (Poll 0 0 ∷ []))
+      answers plan_a (install_one 0 5 112 ++ (Poll 0 0 ∷ []))
       ≡ row 0 0 0 0 ∷ row 0 7 0 0 ∷ row 0 0 0 0 ∷ row 0 1 0 0 ∷ row 0 0 1 0 ∷ row 0 1 1 0
       ∷ row 0 1 0 0 ∷ row 0 1 2 0 ∷ row 0 2 2 0 ∷ row 0 0 3 1 ∷ row 0 3 1 0 ∷ row 11 0 0 0 ∷ []
-  pub installed : primary_word plan_A (install_one 0 5 112) 5 ≡ record { version = 8; holder = 0; value = 112 }
+  pub installed : primary_word plan_a (install_one 0 5 112) 5 ≡ record { version = 8; holder = 0; value = 112 }
   -- limits
   pub capacity_low : setup_answer (plan_of 3 7) ≡ row 1 0 0 0
   pub capacity_least : setup_answer (plan_of 4 7) ≡ row 0 64 0 0
-  pub address_last : last_answer plan_A (Open 0 ∷ Read 0 63 ∷ []) ≡ row 0 7 0 0
-  pub address_past : last_answer plan_A (Open 0 ∷ Read 0 64 ∷ []) ≡ row 6 0 0 0
+  pub address_last : last_answer plan_a (Open 0 ∷ Read 0 63 ∷ []) ≡ row 0 7 0 0
+  pub address_past : last_answer plan_a (Open 0 ∷ Read 0 64 ∷ []) ≡ row 6 0 0 0
   pub version_last : last_answer (plan_of 4 (2 ^ 60 - 1)) (Open 0 ∷ Read 0 5 ∷ Write 0 5 112 ∷ []) ≡ row 9 0 0 0
   pub version_before : last_answer (plan_of 4 (2 ^ 60 - 2)) (Open 0 ∷ Read 0 5 ∷ Write 0 5 112 ∷ []) ≡ row 0 0 0 0
   -- both read 1 and 2, and each locks one: a check of the version alone would commit both
-  pub cross_check : last_answer plan_A (both_locked ++ (Check 0 ∷ [])) ≡ row 0 2 0 2
-  pub cross_version : primary_word plan_A both_locked 2 ≡ record { version = 7; holder = 2; value = 0 }
+  pub cross_check : last_answer plan_a (both_locked ++ (Check 0 ∷ [])) ≡ row 0 2 0 2
+  pub cross_version : primary_word plan_a both_locked 2 ≡ record { version = 7; holder = 2; value = 0 }
   -- a word that its own coordinator still holds from the last transaction fails the check
-  pub own_holder : last_answer plan_A (commit_one 0 5 112 ++ (Open 0 ∷ Read 0 5 ∷ Commit 0 ∷ Check 0 ∷ [])) ≡ row 0 5 0 2
+  pub own_holder : last_answer plan_a (commit_one 0 5 112 ++ (Open 0 ∷ Read 0 5 ∷ Commit 0 ∷ Check 0 ∷ [])) ≡ row 0 5 0 2
   -- room
-  pub no_room : last_answer plan_A (install_one 0 5 112 ++ (Open 0 ∷ Read 0 5 ∷ Write 0 5 113 ∷ Commit 0 ∷ [])) ≡ row 10 0 0 0
+  pub no_room : last_answer plan_a (install_one 0 5 112 ++ (Open 0 ∷ Read 0 5 ∷ Write 0 5 113 ∷ Commit 0 ∷ [])) ≡ row 10 0 0 0
   pub more_room : last_answer (plan_of 5 7) (install_one 0 5 112 ++ (Open 0 ∷ Read 0 5 ∷ Write 0 5 113 ∷ Commit 0 ∷ [])) ≡ row 0 2 0 0
   -- the ABORT after a failed LOCK frees nothing
-  pub denied : last_answer plan_A one_denied ≡ row 0 0 0 2
-  pub abort_none : last_answer plan_A (one_denied ++ (Send 1 ∷ Poll 1 0 ∷ [])) ≡ row 0 4 0 0
-  pub still_held : primary_word plan_A (one_denied ++ (Send 1 ∷ Poll 1 0 ∷ [])) 5 ≡ record { version = 7; holder = 1; value = 0 }
+  pub denied : last_answer plan_a one_denied ≡ row 0 0 0 2
+  pub abort_none : last_answer plan_a (one_denied ++ (Send 1 ∷ Poll 1 0 ∷ [])) ≡ row 0 4 0 0
+  pub still_held : primary_word plan_a (one_denied ++ (Send 1 ∷ Poll 1 0 ∷ [])) 5 ≡ record { version = 7; holder = 1; value = 0 }
   -- a newer version reaches the backup first: the older one is not put over it
-  pub newer_first : last_answer plan_A (install_one 0 5 112 ++ install_one 1 5 113 ++ trim_backup 1 1) ≡ row 0 5 1 0
-  pub older_none : last_answer plan_A (install_one 0 5 112 ++ install_one 1 5 113 ++ trim_backup 1 1 ++ trim_backup 0 1) ≡ row 0 5 0 0
+  pub newer_first : last_answer plan_a (install_one 0 5 112 ++ install_one 1 5 113 ++ trim_backup 1 1) ≡ row 0 5 1 0
+  pub older_none : last_answer plan_a (install_one 0 5 112 ++ install_one 1 5 113 ++ trim_backup 1 1 ++ trim_backup 0 1) ≡ row 0 5 0 0

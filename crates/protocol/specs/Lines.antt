@@ -1,5 +1,5 @@
 -- What the lines of a record do to the words of a memory.
-use Rattle.std.specs.Prelude.{ℕ, ◌+◌, Bool, true, false, cond, ◌&&◌, List, [], ◌∷◌, ◌==◌, nat_eq, nat_lt, slice_set}
+use Rattle.std.specs.Prelude.{ℕ, ◌+◌, Bool, true, false, cond, ◌&&◌, List, [], ◌∷◌, ◌==◌, nat_lt, slice_set}
 use Rattle.memory.specs.declared.word.Word.{Word}
 use Rattle.memory.specs.Words.{word, at, held_by}
 use Rattle.protocol.specs.declared.record.Line.{Line}
@@ -35,7 +35,7 @@ install_lines ws (l ∷ ls) = install_lines (put ws l.address (l.version + 1) l.
 
 -- ABORT: the lines whose word the holder has, and each of their words freed
 abbrev pub held_lines : Words → ℕ → List Line → List Line
-held_lines ws holder ls = filter (λ l. nat_eq (at ws l.address).holder holder) ls
+held_lines ws holder ls = filter (λ l. (at ws l.address).holder == holder) ls
 
 abbrev pub free_lines : Words → List Line → Words
 free_lines ws [] = ws

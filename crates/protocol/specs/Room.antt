@@ -1,5 +1,5 @@
 -- Which lines go to which machine, and the places kept in a log for what a commit has yet to write.
-use Rattle.std.specs.Prelude.{ℕ, ◌+◌, ◌/◌, ◌^◌, Bool, true, false, not, ◌||◌, List, [], ◌∷◌, length, ◌==◌, bit_or, nat_eq, nat_le}
+use Rattle.std.specs.Prelude.{ℕ, ◌+◌, ◌/◌, ◌^◌, Bool, true, false, not, ◌||◌, List, [], ◌∷◌, length, ◌==◌, bit_or, nat_le}
 use Rattle.protocol.specs.Lists.{is_empty, filter, all_by, is_member}
 use Rattle.protocol.specs.declared.record.Line.{Line}
 use Rattle.protocol.specs.declared.plan.Plan.{Plan}
@@ -9,7 +9,7 @@ use Rattle.protocol.specs.Coordinator.{Coordinator, Phase, Idle, Opened, Locking
 
 -- the written words whose primary is on machine m
 abbrev pub primary_lines : Plan → List Line → ℕ → List Line
-primary_lines p ws m = filter (λ l. nat_eq (home_of p l.address).primary m) ws
+primary_lines p ws m = filter (λ l. (home_of p l.address).primary == m) ws
 
 -- machine m has a backup of the address
 abbrev pub is_backup : Plan → ℕ → ℕ → Bool
