@@ -1,9 +1,10 @@
 -- The transaction as its commit begins.
 use Rattle.std.proofs.Common.{◌≡◌, ℕ, zero, suc, ◌-◌, ◌<◌, ◌≤◌, Bool, true, false, cond, eqb, List, [], ◌∷◌, length, get_or, drop, Option, sym, refl, ap, ◌∙◌, arith}
+use Rattle.std.specs.List.{filter}
 use Rattle.std.proofs.lemmas.Bool.{eqb-true}
 use Rattle.protocol.specs.declared.plan.Plan.{Plan}
 use Rattle.protocol.specs.declared.record.Line.{Line}
-use Rattle.protocol.specs.Lists.{filter, counting}
+use Rattle.protocol.specs.Lists.{counting}
 use Rattle.protocol.specs.Room.{primary_machines, is_at_primary}
 use Rattle.protocol.specs.Commit.{first_phase, read_only}
 use Rattle.protocol.specs.Coordinator as protocol

@@ -1,12 +1,12 @@
 -- What commit does on each way out.
 use Rattle.std.proofs.Common.{◌≡◌, ℕ, suc, ◌*◌, ◌^◌, ◌<◌, ◌≤◌, Bool, true, false, length, get_or, set, Some, None, Ok, Err, sym, ap, ◌∙◌, subst, arith}
+use Rattle.std.specs.List.{list_all}
 use Rattle.std.proofs.lemmas.Bool.{ltb-true}
 use Rattle.memory.specs.Words.{at, Proper}
 use Rattle.protocol.specs.declared.plan.Plan.{Plan}
 use Rattle.protocol.specs.declared.call.Call.TheVariants.{Commit}
 use Rattle.protocol.specs.declared.call.Outcome.{Outcome}
 use Rattle.protocol.specs.declared.call.Refusal.TheVariants.{WrongPhase, UsedUp, NoRoom}
-use Rattle.protocol.specs.Lists.{all_by}
 use Rattle.protocol.specs.Plan.{machine_list}
 use Rattle.protocol.specs.Room.{is_roomy}
 use Rattle.protocol.specs.Call.{answered}
@@ -56,7 +56,7 @@ module _ (p : Plan) (w : World) (c : ℕ) (in' : Inside p w c) (e : Coordinator)
         (λ s. refusals.commit-used-up p _ c (is_open p first.work _ is) (subst (λ (n : ℕ). 2 ^ 64 ≤ n) (sym (ap next_of q)) (omega arith)))
 
     module _ (number : ℕ) (next : first.work.next ≡ Some number) (small : number < 2 ^ 64) (room : Bool)
-        (told : Rings p first → room ≡ all_by (roomy_at p c first w.records) (machine_list p)) where
+        (told : Rings p first → room ≡ list_all (roomy_at p c first w.records) (machine_list p)) where
       room-so : (d : Coordinator) → Sound p w → is_roomy p (begin p (own p w.records w.replies c first)) ≡ room
       room-so d s =
           let r = rings-of p w (Commit c) in' e s in

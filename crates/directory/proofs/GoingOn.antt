@@ -1,10 +1,10 @@
 -- How a transaction goes on once a machine has its record.
 use Rattle.std.proofs.Common.{◌≡◌, ℕ, ◌+◌, Bool, true, false, ◌⊎◌, List, [], ◌∷◌, get_or, Some, None, sym, refl, ap, ◌∙◌, subst, ⊎_elim, arith}
+use Rattle.std.specs.List.{filter}
 use Rattle.protocol.specs.declared.plan.Plan.{Plan}
 use Rattle.protocol.specs.declared.record.Line.{Line}
 use Rattle.protocol.specs.declared.record.Kind.{Kind}
 use Rattle.protocol.specs.declared.record.Kind.TheVariants.{Lock, CommitBackup, CommitPrimary, Abort, Truncate}
-use Rattle.protocol.specs.Lists.{filter}
 use Rattle.protocol.specs.Plan.{machine_list}
 use Rattle.protocol.specs.Record.{number_of}
 use Rattle.protocol.specs.Room.{is_at_primary}

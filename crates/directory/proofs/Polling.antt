@@ -1,7 +1,7 @@
 -- What poll does on each way out.
 use Rattle.std.proofs.Common.{◌≡◌, ℕ, suc, ◌+◌, ◌*◌, ◌<◌, ◌≤◌, Bool, true, false, cond, List, [], ◌∷◌, reverse, length, get_or, drop, set, Some, Ok, Err, sym, refl, ap, ◌∙◌, subst, arith}
 use borrow.Rule.Slice.PartMut.{put_mid}
-use Rattle.std.specs.List.{AllByRecursion}
+use Rattle.std.specs.List.{AllByRecursion, list_all}
 use Rattle.std.proofs.ByRecursion.{All-append}
 use Rattle.std.proofs.lemmas.List.{drop-set-lt}
 use Rattle.std.proofs.lemmas.Bool.{ltb-true}
@@ -19,7 +19,7 @@ use Rattle.protocol.specs.declared.record.Reply.{Reply}
 use Rattle.protocol.specs.declared.call.Call.TheVariants.{Poll}
 use Rattle.protocol.specs.declared.call.Outcome.TheVariants.{Going}
 use Rattle.protocol.specs.declared.call.Refusal.TheVariants.{NoMachine, Nothing}
-use Rattle.protocol.specs.Lists.{upd, all_by}
+use Rattle.protocol.specs.Lists.{upd}
 use Rattle.protocol.specs.Try.{Try}
 use Rattle.protocol.specs.Lines.{Words, is_current, lock_lines}
 use Rattle.protocol.specs.Record.{Note, note, Log, records, number_of}
@@ -80,7 +80,7 @@ module _ (p : Plan) (x : Local) (c m : ℕ) (r : Note) (rest : List Note) where
   unreplied : (kind : Kind) → ◌≡◌ {A = Try Accepted} (Ok (with_queues kind (does kind) x.own.queues)) (Ok (with_queues kind (does kind) (upd x.own.queues m (x.own.queues m))))
   unreplied kind = ap (λ (q : ℕ → List Reply). Ok (with_queues kind (does kind) q)) (sym (upd-own x.own.queues m))
 
-  poll_lock-does : Next p x m Lock r rest → (b : Bool) → all_by (is_current x.primaries) r.lines ≡ b
+  poll_lock-does : Next p x m Lock r rest → (b : Bool) → list_all (is_current x.primaries) r.lines ≡ b
       → local_call p x (Poll c m) ≡ Ok (leaves_effect x m r rest Lock (cond b (effect (length r.lines) true (lock_lines x.primaries (suc c) r.lines) x.firsts x.seconds) (effect 0 false x.primaries x.firsts x.seconds)))
   poll_lock-does n true q = accepts p x (locks r rest n q)
   poll_lock-does n false q = accepts p x (denies r rest n q)

@@ -1,5 +1,6 @@
 -- What open, read, write and abandon do on each way out.
 use Rattle.std.proofs.Common.{◌≡◌, ℕ, ◌-◌, ◌^◌, ◌<◌, ◌≤◌, Bool, true, false, cond, List, [], length, get_or, set, Some, None, Ok, Err, Option, sym, ap, ◌∙◌, subst, arith}
+use Rattle.std.specs.List.{push}
 use Rattle.std.proofs.lemmas.Bool.{lt-ltb}
 use Rattle.memory.specs.Words.{at, there, look_at, Proper}
 use Rattle.protocol.specs.declared.plan.Plan.{Plan}
@@ -7,7 +8,6 @@ use Rattle.protocol.specs.declared.record.Line.{Line}
 use Rattle.protocol.specs.declared.call.Call.TheVariants.{Open, Read, Write, Abandon}
 use Rattle.protocol.specs.declared.call.Refusal.TheVariants.{WrongPhase, NoAddress, TooMany, NotRead, UsedUp}
 use Rattle.protocol.specs.declared.call.Outcome.TheVariants.{Going, Aborted}
-use Rattle.protocol.specs.Lists.{snoc}
 use Rattle.protocol.specs.Plan.{size}
 use Rattle.protocol.specs.Lines.{Words, line}
 use Rattle.protocol.specs.Coordinator as protocol
@@ -142,7 +142,7 @@ module _ (p : Plan) (w : World) (c : ℕ) (in' : Inside p w c) (e : Coordinator)
       writes_then o q = sym (subst (λ (z : Coordinator). o ≡ line_at a (writes_of z.work)) same q)
 
       pub reads-new : None ≡ line_at a (reads_of first.work) → first.work.nreads < 8 → (v h x : ℕ) → Some (v, h, x) ≡ look_at w.primaries a
-          → Leaves t then.work.phase then.work.next (snoc (reads_of then.work) (line a v x)) (writes_of then.work)
+          → Leaves t then.work.phase then.work.next (push (reads_of then.work) (line a v x)) (writes_of then.work)
           → Does p w after (Ok (answered v x Going)) (Read c a)
       unfolding own
       reads-new new few v h x looked l =
@@ -150,9 +150,9 @@ module _ (p : Plan) (w : World) (c : ℕ) (in' : Inside p w c) (e : Coordinator)
           (λ s.
           let few' : then.work.nreads < 8 = subst (λ (z : Coordinator). z.work.nreads < 8) same few in
           protocol-calls.reads-new p _ c a (is_open p then.work _ is-then) within (reads_then None new) (omega (arith, few', count-reads then.work))
-          ∙ ap (λ (r : Line). Ok (record { answer = answered r.version r.value Going; after = own_left p w (Read c a) in' words d (phase_of p then.work then.work.phase) (next_of then.work.next) (snoc (reads_of then.work) r) (writes_of then.work) }))
+          ∙ ap (λ (r : Line). Ok (record { answer = answered r.version r.value Going; after = own_left p w (Read c a) in' words d (phase_of p then.work then.work.phase) (next_of then.work.next) (push (reads_of then.work) r) (writes_of then.work) }))
           (sym (look-some w.primaries a v h x looked))
-          ∙ ap (λ (ph : protocol.Phase). Ok (record { answer = answered v x Going; after = own_left p w (Read c a) in' words d ph (next_of then.work.next) (snoc (reads_of then.work) (line a v x)) (writes_of then.work) }))
+          ∙ ap (λ (ph : protocol.Phase). Ok (record { answer = answered v x Going; after = own_left p w (Read c a) in' words d ph (next_of then.work.next) (push (reads_of then.work) (line a v x)) (writes_of then.work) }))
           (ap (phase_of p then.work) is-then ∙ as-open p then.work))
 
       module _ (v : ℕ) (r : Line) (found : Some r ≡ line_at a (reads_of first.work)) (next : r.version ≡ 2 ^ 60 - 1 → ⊥) where
@@ -175,7 +175,7 @@ module _ (p : Plan) (w : World) (c : ℕ) (in' : Inside p w c) (e : Coordinator)
             (protocol-calls.writes_again p _ c a v (is_open p then.work _ is-then) within r (reads_then (Some r) found) next o (writes_then (Some o) old))
 
         pub writes-new : None ≡ line_at a (writes_of first.work) → first.work.nwrites < 4
-            → Leaves t then.work.phase then.work.next (reads_of then.work) (snoc (writes_of then.work) (line r.address r.version v))
+            → Leaves t then.work.phase then.work.next (reads_of then.work) (push (writes_of then.work) (line r.address r.version v))
             → Does p w after (Ok (answered 0 0 Going)) (Write c a v)
         unfolding own
         writes-new new few l =

@@ -1,9 +1,9 @@
 -- What a poll leaves of the pair's log and queue, by the kind of the record.
 use Rattle.std.specs.Prelude.{ℕ, Bool, List, [], ◌∷◌}
+use Rattle.std.specs.List.{push}
 use Rattle.protocol.specs.declared.record.Kind.{Kind}
 use Rattle.protocol.specs.declared.record.Kind.TheVariants.{Lock, CommitBackup, CommitPrimary, Abort, Truncate}
 use Rattle.protocol.specs.declared.record.Reply.{Reply}
-use Rattle.protocol.specs.Lists.{snoc}
 use Rattle.protocol.specs.Record.{Note, Log}
 use Rattle.protocol.specs.Poll.{reply}
 
@@ -17,7 +17,7 @@ passed_log polled r rest Truncate = record { polled = []; waiting = rest }
 
 -- a LOCK is replied to
 abbrev pub replied : List Reply → ℕ → Bool → Kind → List Reply
-replied q n granted Lock = snoc q (reply n granted)
+replied q n granted Lock = push q (reply n granted)
 replied q n granted CommitBackup = q
 replied q n granted CommitPrimary = q
 replied q n granted Abort = q

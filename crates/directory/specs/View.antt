@@ -1,5 +1,6 @@
 -- The lent tables and memories, and the protocol's state that they stand for.
 use Rattle.std.specs.Prelude.{ℕ, ◌-◌, ◌*◌, ◌^◌, Bool, false, ◌&&◌, List, [], reverse, length, take, drop, Some, None, Option, ◌==◌, nat_le, slice_index_or}
+use Rattle.std.specs.List.{filter}
 use Rattle.ring.specs.declared.Ring.{Ring}
 use Rattle.ring.specs.Contents.{contents}
 use Rattle.ring.specs.Rings.{mapi, row}
@@ -7,7 +8,7 @@ use Rattle.protocol.specs.declared.plan.Plan.{Plan}
 use Rattle.protocol.specs.declared.record.Line.{Line}
 use Rattle.protocol.specs.declared.record.Record.{Record}
 use Rattle.protocol.specs.declared.record.Reply.{Reply}
-use Rattle.protocol.specs.Lists.{filter, counting}
+use Rattle.protocol.specs.Lists.{counting}
 use Rattle.protocol.specs.Lines.{Words}
 use Rattle.protocol.specs.Record.{Log, empty_log}
 use Rattle.protocol.specs.Plan.{size, machine_list}

@@ -1,6 +1,6 @@
 // The checks that every call makes first.
 ghost use Rattle.std.specs.Prelude.{◌≡◌, ◌<◌, length, OnOk};
-ghost use Rattle.protocol.specs.Lists.{all_by};
+ghost use Rattle.std.specs.List.{list_all};
 ghost use Rattle.protocol.specs.Plan.{is_fine, has_fine_sizes, is_fine_home};
 ghost use Rattle.directory.specs.View.{world, is_fitting};
 ghost use Rattle.directory.specs.Checks.{admitted};
@@ -24,7 +24,7 @@ fn home_ok(home: &Home, machines: u8) -> bool
 }
 
 fn homes_ok(homes: &[Home], machines: u8) -> bool
-    ensures { result ≡ all_by (is_fine_home machines) homes.now }
+    ensures { result ≡ list_all (is_fine_home machines) homes.now }
 {
     for home in homes {
         if !home_ok(home, machines) {

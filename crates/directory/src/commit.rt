@@ -1,7 +1,7 @@
 // A commit begins: a number is given, and room is kept.
 ghost use Rattle.std.specs.Prelude.{◌≡◌, suc, ◌*◌, ◌^◌, ◌<◌, ◌≤◌, [], ◌∷◌, length};
+ghost use Rattle.std.specs.List.{list_all};
 ghost use Rattle.protocol.specs.declared.call.Call.TheVariants.{Commit};
-ghost use Rattle.protocol.specs.Lists.{all_by};
 ghost use Rattle.protocol.specs.Plan.{machine_list};
 ghost use Rattle.protocol.specs.Room.{is_at_primary};
 ghost use Rattle.protocol.specs.Commit.{first_phase};
@@ -89,7 +89,7 @@ fn has_room(plan: &Plan, c: u8, own: &Coordinator, records: &[Record]) -> bool
     requires capacity { plan.now.capacity ≤ 16 }
     requires c { c < plan.now.coordinators }
     requires records { plan.now.coordinators * plan.now.machines * plan.now.capacity ≤ length records.now }
-    ensures { Rings plan.now own.now → result ≡ all_by (roomy_at plan.now c own.now records.now) (machine_list plan.now) }
+    ensures { Rings plan.now own.now → result ≡ list_all (roomy_at plan.now c own.now records.now) (machine_list plan.now) }
 {
     let places = plan.capacity as usize;
     let count = own.work.nwrites as usize;

@@ -1,6 +1,7 @@
 // How a transaction goes on after a reply and after a check.
 ghost use Rattle.std.specs.Prelude.{◌≡◌, ◌<◌, ◌≤◌, not, is_some, if◌then◌else◌, ◌==◌};
-ghost use Rattle.protocol.specs.Lists.{all_by, is_empty};
+ghost use Rattle.std.specs.List.{list_all};
+ghost use Rattle.protocol.specs.Lists.{is_empty};
 ghost use Rattle.protocol.specs.Coordinator.{line_at};
 ghost use Rattle.directory.specs.declared.tables.Phase.TheVariants.{Idle};
 ghost use Rattle.directory.specs.View.{writes_of, awaited_of};
@@ -13,7 +14,7 @@ use protocol::record::Line;
 
 // No flag is up.
 fn all_down(flags: &[bool]) -> bool
-    ensures { result ≡ all_by not flags.now }
+    ensures { result ≡ list_all not flags.now }
 {
     for flag in flags {
         if *flag {

@@ -1,6 +1,6 @@
 // A coordinator's transaction, changed in place.
 ghost use Rattle.std.specs.Prelude.{◌≡◌, ◌<◌, []};
-ghost use Rattle.protocol.specs.Lists.{snoc};
+ghost use Rattle.std.specs.List.{push};
 ghost use Rattle.protocol.specs.Coordinator.{line_at};
 ghost use Rattle.protocol.specs.Transact.{revalued, rewrite, value_of};
 ghost use Rattle.directory.specs.declared.tables.Phase.TheVariants.{Idle, Open};
@@ -91,7 +91,7 @@ impl Work {
     // One more word is read.
     pub(crate) fn note_read(&mut self, line: Line)
         requires { self.old.nreads < 8 }
-        ensures { Leaves self.new self.old.phase self.old.next (snoc (reads_of self.old) line) (writes_of self.old) }
+        ensures { Leaves self.new self.old.phase self.old.next (push (reads_of self.old) line) (writes_of self.old) }
     {
         let at = self.nreads as usize;
         self.reads[at] = line;
@@ -101,7 +101,7 @@ impl Work {
     // One more word is written.
     pub(crate) fn note_write(&mut self, line: Line)
         requires { self.old.nwrites < 4 }
-        ensures { Leaves self.new self.old.phase self.old.next (reads_of self.old) (snoc (writes_of self.old) line) }
+        ensures { Leaves self.new self.old.phase self.old.next (reads_of self.old) (push (writes_of self.old) line) }
     {
         let at = self.nwrites as usize;
         self.writes[at] = line;

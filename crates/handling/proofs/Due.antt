@@ -1,6 +1,7 @@
 -- The machines from some number on that pass a test, and the lowest of them.
 use Rattle.std.proofs.Common.{◌≡◌, ℕ, zero, suc, ◌+◌, ◌-◌, ◌<◌, ◌≤◌, Bool, true, false, cond, List, [], ◌∷◌, Some, None, sym, refl, ap, ◌∙◌, arith}
-use Rattle.protocol.specs.Lists.{filter, counting}
+use Rattle.std.specs.List.{filter}
+use Rattle.protocol.specs.Lists.{counting}
 use Rattle.handling.specs.Sending.{first_machine}
 
 -- those of m to n - 1 that pass

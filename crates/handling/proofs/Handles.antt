@@ -1,6 +1,6 @@
 -- What the lines of a record do, as the functions on lines ensure it of the part that was lent to them.
 use Rattle.std.proofs.Common.{◌≡◌, ℕ, suc, ◌+◌, ◌^◌, ◌<◌, min, Bool, true, false, cond, List, [], ◌∷◌, reverse, length, take, Some, None, sym, refl, ap, ◌∙◌, subst, arith}
-use Rattle.std.specs.List.{AllByRecursion}
+use Rattle.std.specs.List.{AllByRecursion, list_all, find}
 use Rattle.std.proofs.ByRecursion.{All-append, All-take}
 use Rattle.std.proofs.lemmas.List.{length-take, reverse-append}
 use Rattle.std.proofs.lemmas.Bool.{and_from, lt-ltb}
@@ -9,7 +9,6 @@ use Rattle.memory.specs.Words.{holds}
 use Rattle.protocol.specs.declared.plan.Plan.{Plan}
 use Rattle.protocol.specs.declared.record.Line.{Line}
 use Rattle.protocol.specs.declared.record.Record.{Record}
-use Rattle.protocol.specs.Lists.{all_by, find}
 use Rattle.protocol.specs.Plan.{size}
 use Rattle.protocol.specs.Lines.{Words, is_current, lock_lines, install_lines, held_lines, free_lines}
 use Rattle.protocol.specs.Record.{note}
@@ -67,14 +66,14 @@ module _ (p : Plan) (x : Record) (k : ℕ) (is : k ≡ x.count) (ws ws' : Words)
   fit-part good long = subst (λ (zs : List Line). AllByRecursion (Fit (length ws)) zs) (sym part-is) (fits-words p (length ws) all long good.fit)
 
   module _ (c h : ℕ) (h-is : h ≡ min (c + 1) 255) (granted : Bool) (after : ws' ≡ cond granted (lock_lines ws h part) ws)
-      (told : AllByRecursion (Fit (length ws)) part → holds h ≡ true → granted ≡ all_by (is_current ws) part) where
+      (told : AllByRecursion (Fit (length ws)) part → holds h ≡ true → granted ≡ list_all (is_current ws) part) where
     long-all : length all ≡ x.count
     long-all = simp length-take (omega (arith, x.few, x.four))
 
     pub locks-or-not : HandlesLock p c (note x) ws ws' (record { count = cond granted x.count 0; granted = granted })
     locks-or-not good long few =
         let same = holder-is c h h-is few in
-        let yes_or_no : granted ≡ all_by (is_current ws) all = told (fit-part good long) (ap holds same ∙ holds-suc c few) ∙ ap (all_by (is_current ws)) part-is in
+        let yes_or_no : granted ≡ list_all (is_current ws) all = told (fit-part good long) (ap holds same ∙ holds-suc c few) ∙ ap (list_all (is_current ws)) part-is in
         let left : ws' ≡ cond granted (lock_lines ws (suc c) all) ws = after ∙ ap (λ (n : ℕ). cond granted (lock_lines ws n part) ws) same ∙ ap (λ (zs : List Line). cond granted (lock_lines ws (suc c) zs) ws) part-is in
         ap (λ (vs : Words). effect (cond granted x.count 0) granted vs [] []) left ∙ by_cases granted ∙ ap (λ (b : Bool). cond b (effect (length all) true (lock_lines ws (suc c) all) [] []) (effect 0 false ws [] [])) yes_or_no
       where

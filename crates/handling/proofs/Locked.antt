@@ -1,7 +1,7 @@
 -- The lines of the LOCK that was found.
 use Rattle.std.proofs.Common.{◌≡◌, ℕ, List, [], take, Some, None, ap}
+use Rattle.std.specs.List.{find}
 use Rattle.protocol.specs.declared.record.Record.{Record}
-use Rattle.protocol.specs.Lists.{find}
 use Rattle.protocol.specs.Record.{Note, note}
 use Rattle.protocol.specs.Poll.{is_lock_of, lines_of, locked_lines}
 

@@ -1,7 +1,8 @@
 -- A loop that looks through a list, by its index, for one that passes a test.
 use Rattle.std.proofs.Common.{◌≡◌, ℕ, ◌+◌, ◌<◌, ◌≤◌, Bool, true, false, not, List, ◌∷◌, length, get_or, drop, sym, refl, ◌∙◌}
+use Rattle.std.specs.List.{filter}
 use Rattle.std.proofs.lemmas.List.{at_drop_more, at_drop_all}
-use Rattle.protocol.specs.Lists.{is_empty, filter}
+use Rattle.protocol.specs.Lists.{is_empty}
 
 abbrev pub some_by : {X : Type 0} → (X → Bool) → List X → Bool
 some_by f xs = not (is_empty (filter f xs))

@@ -1,7 +1,7 @@
 -- A loop that looks from the last place of a list to the first, for one that passes a test.
 use Rattle.std.proofs.Common.{◌≡◌, ℕ, zero, suc, ◌+◌, ◌-◌, ◌<◌, Bool, true, false, cond, List, [], ◌∷◌, ◌++◌, reverse, take, drop, Some, sym, ap, ◌∙◌, add-one, arith}
+use Rattle.std.specs.List.{find}
 use Rattle.std.proofs.lemmas.List.{reverse-append}
-use Rattle.protocol.specs.Lists.{find}
 
 module _ {X : Type 0} where
   take-here : (xs : List X) (i : ℕ) (x : X) (rest : List X) → drop i xs ≡ x ∷ rest → take (suc i) xs ≡ take i xs ++ x ∷ []

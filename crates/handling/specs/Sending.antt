@@ -1,11 +1,11 @@
 -- What a commit writes into the logs: to which machines, how many records, and what each says.
 use Rattle.std.specs.Prelude.{ℕ, ◌+◌, ◌-◌, ◌<◌, Bool, false, not, List, [], ◌∷◌, Some, None, Option, ◌==◌}
-use Rattle.std.specs.List.{AllByRecursion}
+use Rattle.std.specs.List.{AllByRecursion, filter}
 use Rattle.protocol.specs.declared.plan.Plan.{Plan}
 use Rattle.protocol.specs.declared.record.Line.{Line}
 use Rattle.protocol.specs.declared.record.Kind.{Kind}
 use Rattle.protocol.specs.declared.record.Kind.TheVariants.{Lock, CommitBackup, CommitPrimary, Abort, Truncate}
-use Rattle.protocol.specs.Lists.{is_empty, filter, counting}
+use Rattle.protocol.specs.Lists.{is_empty, counting}
 use Rattle.protocol.specs.Plan.{home_of}
 use Rattle.protocol.specs.Record.{Note}
 use Rattle.protocol.specs.Room.{primary_lines, backup_lines, is_backup, is_at_primary, is_at_backup, regions_byte, one_if}

@@ -1,7 +1,7 @@
 // Looking through a log.
 ghost use Rattle.std.specs.Prelude.{◌≡◌, length};
+ghost use Rattle.std.specs.List.{find};
 ghost use Rattle.ring.specs.Contents.{Sound};
-ghost use Rattle.protocol.specs.Lists.{find};
 ghost use Rattle.protocol.specs.Record.{note};
 ghost use Rattle.protocol.specs.Poll.{is_lock_of};
 ghost use Rattle.handling.specs.Notes.{notes, polled, noted, NextIs};

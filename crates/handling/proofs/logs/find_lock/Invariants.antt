@@ -1,7 +1,7 @@
 -- None of the polled records from place i on is the one.
 use Rattle.std.proofs.Common.{◌≡◌, reverse, length, take}
+use Rattle.std.specs.List.{find}
 use Rattle.ring.specs.Contents.{Sound}
-use Rattle.protocol.specs.Lists.{find}
 use Rattle.protocol.specs.Poll.{is_lock_of}
 use Rattle.handling.specs.Notes.{notes, polled}
 use Rattle.handling.proofs.logs.find_lock.Given as goal

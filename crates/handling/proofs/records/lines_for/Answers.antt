@@ -1,8 +1,8 @@
 -- A line that belongs there takes the next place, and the others are left.
 use Rattle.std.proofs.Common.{sym, ap, ◌∙◌, inl, inr, ⊎_elim, arith}
+use Rattle.std.specs.List.{filter}
 use Rattle.std.proofs.lemmas.List.{take_all}
 use Rattle.protocol.specs.declared.record.Line.{Line}
-use Rattle.protocol.specs.Lists.{filter}
 use Rattle.handling.specs.Sending.{is_picked}
 use Rattle.handling.proofs.Picking.{picks_more, picks-none, picked-is}
 use Rattle.handling.proofs.records.lines_for.Goals as goal
