@@ -1,0 +1,83 @@
+ghost use Rattle.std.specs.Prelude.{◌≡◌, [], length, if◌then◌else◌, nat_lt};
+ghost use Rattle.std.specs.List.{push};
+ghost use Rattle.protocol.specs.Coordinator.{line_at};
+ghost use Rattle.protocol.specs.LineVec.{listed};
+ghost use Rattle.protocol.specs.Transact.{revalued, rewrite};
+
+use super::LineVec;
+use crate::record::Line;
+
+impl<const N: usize> LineVec<N> {
+    // No lines.
+    pub fn new() -> LineVec<N>
+        ensures { listed result ≡ [] }
+    {
+        LineVec {
+            len: 0,
+            places: [Line::default(); N],
+        }
+    }
+
+    pub fn as_slice(&self) -> &[Line]
+        ensures { result.now ≡ listed self.now }
+    {
+        let places = &self.places[..];
+        &places[0..self.len]
+    }
+
+    pub fn len(&self) -> usize
+        ensures { result ≡ length (listed self.now) }
+    {
+        self.len
+    }
+
+    // One line more behind the last, or false where there are N.
+    pub fn push(&mut self, line: Line) -> bool
+        ensures answers { result ≡ nat_lt (length (listed self.old)) N }
+        ensures after { listed self.new ≡ (if result then push (listed self.old) line else listed self.old) }
+    {
+        if self.len >= N {
+            return false;
+        }
+        self.places[self.len] = line;
+        self.len += 1;
+        true
+    }
+
+    // The first line with that address.
+    pub fn find(&self, address: u16) -> Option<Line>
+        ensures { result ≡ line_at address (listed self.now) }
+    {
+        self.as_slice()
+            .iter()
+            .copied()
+            .find(|line| line.address == address)
+    }
+
+    // Each line with that address takes the value.
+    pub fn rewrite(&mut self, address: u16, value: u64)
+        ensures { listed self.new ≡ rewrite (listed self.old) address value }
+    {
+        let places = &mut self.places[..];
+        revalue_all(places, address, value);
+    }
+}
+
+// The line with the value, if it has that address.
+fn revalued(line: Line, address: u16, value: u64) -> Line
+    ensures { result ≡ revalued address value line }
+{
+    if line.address == address {
+        Line { value, ..line }
+    } else {
+        line
+    }
+}
+
+fn revalue_all(lines: &mut [Line], address: u16, value: u64)
+    ensures { lines.new ≡ rewrite lines.old address value }
+{
+    for line in lines.iter_mut() {
+        *line = revalued(*line, address, value);
+    }
+}
