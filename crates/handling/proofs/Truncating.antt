@@ -41,36 +41,30 @@ size-lines p m (l ∷ ls) b =
     (rest.0 ∙ one.0, rest.1 ∙ one.1)
 
 -- the lines of a COMMIT-BACKUP are all its lines
-backup_lines-of : (x : Record) → x.kind ≡ CommitBackup → backup_part (note x) ≡ take x.count x.lines
-backup_lines-of x e = ap (λ (k : Kind). cond (kind_eq k CommitBackup) (take x.count x.lines) []) e
+backup_lines-of : (x : Record) → x.kind ≡ CommitBackup → backup_part (note x) ≡ (note x).lines
+backup_lines-of x e = ap (λ (k : Kind). cond (kind_eq k CommitBackup) (note x).lines []) e
 
--- what the lines of a COMMIT-BACKUP do, as `back_up_lines` ensures it of the part that was lent to it
-module _ (p : Plan) (m : ℕ) (x : Record) (k : ℕ) (is : k ≡ x.count) (kind : x.kind ≡ CommitBackup) (f s f' s' : Words) (r : ℕ) where
-  abbrev part : List Line
-  part = take k x.lines
-
-  part-is : part ≡ take x.count x.lines
-  part-is = ap (λ (n : ℕ). take n x.lines) is
-
-  pub backs-up-lines : r ≤ length part → (ls : List Line) → ((n : ℕ) → backups (n + r) f' s' ≡ back_up_lines p m ls (backups n f s))
-      → (AllByRecursion (Fit (length f)) part → length s ≡ length f → (n : ℕ) → backups (n + r) f' s' ≡ back_up_lines p m part (backups n f s)) → BacksUp p m (note x) f s f' s' r
-  backs-up-lines few ls did fits =
-      let sizes = size-lines p m ls (backups 0 f s) in
-      record {
-        few = omega (arith, few, length-take k x.lines, x.few, is);
-        firsts = ap (λ (b : Backups). length b.firsts) (did 0) ∙ sizes.0;
-        seconds = ap (λ (b : Backups). length b.seconds) (did 0) ∙ sizes.1;
-        after = λ good long long' n.
-            fits (subst (λ (j : ℕ). AllByRecursion (Fit j) part) (sym long) (subst (AllByRecursion (Fit (size p))) (sym part-is) good.fit)) (long' ∙ sym long) n
-            ∙ ap (λ (zs : List Line). back_up_lines p m zs (backups n f s)) (part-is ∙ sym (backup_lines-of x kind));
-      }
+-- what the lines of a COMMIT-BACKUP do, as `back_up_lines` ensures it
+pub backs-up-lines : (p : Plan) (m : ℕ) (x : Record) → x.kind ≡ CommitBackup → (f s f' s' : Words) (r : ℕ) (part : List Line) → part ≡ (note x).lines → length part ≤ 4
+    → r ≤ length part → (ls : List Line) → ((n : ℕ) → backups (n + r) f' s' ≡ back_up_lines p m ls (backups n f s))
+    → (AllByRecursion (Fit (length f)) part → length s ≡ length f → (n : ℕ) → backups (n + r) f' s' ≡ back_up_lines p m part (backups n f s)) → BacksUp p m (note x) f s f' s' r
+backs-up-lines p m x kind f s f' s' r part is short few ls did fits =
+    let sizes = size-lines p m ls (backups 0 f s) in
+    record {
+      few = omega arith;
+      firsts = ap (λ (b : Backups). length b.firsts) (did 0) ∙ sizes.0;
+      seconds = ap (λ (b : Backups). length b.seconds) (did 0) ∙ sizes.1;
+      after = λ good long long' n.
+          fits (subst (λ (j : ℕ). AllByRecursion (Fit j) part) (sym long) (subst (AllByRecursion (Fit (size p))) (sym is) good.fit)) (long' ∙ sym long) n
+          ∙ ap (λ (zs : List Line). back_up_lines p m zs (backups n f s)) (is ∙ sym (backup_lines-of x kind));
+    }
 
 no_lines : (x : Record) (k : Kind) → x.kind ≡ k → (x.kind ≡ CommitBackup → ⊥) → backup_part (note x) ≡ []
-no_lines x Lock e n = ap (λ (z : Kind). cond (kind_eq z CommitBackup) (take x.count x.lines) []) e
+no_lines x Lock e n = ap (λ (z : Kind). cond (kind_eq z CommitBackup) (note x).lines []) e
 no_lines x CommitBackup e n = absurd (n e)
-no_lines x CommitPrimary e n = ap (λ (z : Kind). cond (kind_eq z CommitBackup) (take x.count x.lines) []) e
-no_lines x Abort e n = ap (λ (z : Kind). cond (kind_eq z CommitBackup) (take x.count x.lines) []) e
-no_lines x Truncate e n = ap (λ (z : Kind). cond (kind_eq z CommitBackup) (take x.count x.lines) []) e
+no_lines x CommitPrimary e n = ap (λ (z : Kind). cond (kind_eq z CommitBackup) (note x).lines []) e
+no_lines x Abort e n = ap (λ (z : Kind). cond (kind_eq z CommitBackup) (note x).lines []) e
+no_lines x Truncate e n = ap (λ (z : Kind). cond (kind_eq z CommitBackup) (note x).lines []) e
 
 -- any other record puts nothing
 pub backs-up-none : (p : Plan) (m : ℕ) (x : Record) (f s : Words) → (x.kind ≡ CommitBackup → ⊥) → BacksUp p m (note x) f s f s 0

@@ -1,4 +1,4 @@
-ghost use Rattle.std.specs.Prelude.{◌≡◌, [], length, if◌then◌else◌, nat_lt};
+ghost use Rattle.std.specs.Prelude.{◌≡◌, ◌≤◌, [], length, if◌then◌else◌, nat_lt};
 ghost use Rattle.std.specs.List.{push};
 ghost use Rattle.protocol.specs.Coordinator.{line_at};
 ghost use Rattle.protocol.specs.LineVec.{listed};
@@ -18,15 +18,19 @@ impl<const N: usize> LineVec<N> {
         }
     }
 
+    // The lines, at most N.
     pub fn as_slice(&self) -> &[Line]
-        ensures { result.now ≡ listed self.now }
+        ensures lines { result.now ≡ listed self.now }
+        ensures few { length result.now ≤ N }
     {
         let places = &self.places[..];
         &places[0..self.len]
     }
 
+    // How many there are.
     pub fn len(&self) -> usize
-        ensures { result ≡ length (listed self.now) }
+        ensures is { result ≡ length (listed self.now) }
+        ensures few { result ≤ N }
     {
         self.len
     }
