@@ -23,7 +23,7 @@ use Rattle.handling.specs.Sending.{wanted}
 use Rattle.directory.specs.declared.tables.Coordinator.{Coordinator}
 use Rattle.directory.specs.View.{own, log_of, reads_of, writes_of}
 use Rattle.directory.specs.Sound.{Rings}
-use Rattle.directory.specs.Fresh.{empty_ring}
+use Rattle.ring.specs.Contents.{empty_ring}
 use Rattle.directory.specs.Commits.{notes_at, roomy_at}
 use Rattle.directory.proofs.Rows.{row-entry}
 

@@ -1,8 +1,8 @@
 -- What the lines of a record do, as the functions on lines ensure it.
-use Rattle.std.proofs.Common.{◌≡◌, ℕ, suc, ◌+◌, ◌^◌, ◌<◌, min, Bool, true, false, cond, List, [], ◌∷◌, reverse, length, take, Some, None, sym, refl, ap, ◌∙◌, subst, arith}
+use Rattle.std.proofs.Common.{◌≡◌, ℕ, suc, ◌+◌, ◌^◌, ◌<◌, min, Bool, true, false, cond, List, [], ◌∷◌, reverse, length, take, Some, sym, refl, ap, ◌∙◌, subst, arith}
 use Rattle.std.specs.List.{AllByRecursion, list_all, find}
 use Rattle.std.proofs.ByRecursion.{All-append, All-take}
-use Rattle.std.proofs.lemmas.List.{length-take, reverse-append}
+use Rattle.std.proofs.lemmas.List.{reverse-append}
 use Rattle.std.proofs.lemmas.Bool.{and_from, lt-ltb}
 use Rattle.ring.specs.declared.Ring.{Ring}
 use Rattle.memory.specs.Words.{holds}
@@ -10,7 +10,7 @@ use Rattle.protocol.specs.declared.plan.Plan.{Plan}
 use Rattle.protocol.specs.declared.record.Line.{Line}
 use Rattle.protocol.specs.declared.record.Record.{Record}
 use Rattle.protocol.specs.Plan.{size}
-use Rattle.protocol.specs.Lines.{Words, is_current, lock_lines, install_lines, held_lines, free_lines}
+use Rattle.protocol.specs.Lines.{Words, is_current, lock_lines, held_lines, free_lines}
 use Rattle.protocol.specs.Record.{Note}
 use Rattle.protocol.specs.Poll.{is_lock_of, lines_of, locked_lines}
 use Rattle.protocol.specs.Kept.{Lines, Apart}

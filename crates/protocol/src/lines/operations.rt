@@ -2,6 +2,7 @@ ghost use Rattle.std.specs.Prelude.{◌≡◌, ◌≤◌, [], length, if◌then�
 ghost use Rattle.std.specs.List.{push};
 ghost use Rattle.protocol.specs.Coordinator.{line_at};
 ghost use Rattle.protocol.specs.LineVec.{listed};
+ghost use Rattle.protocol.specs.Lists.{is_empty};
 ghost use Rattle.protocol.specs.Transact.{revalued, rewrite};
 
 use super::LineVec;
@@ -32,7 +33,13 @@ impl<const N: usize> LineVec<N> {
         ensures is { result ≡ length (listed self.now) }
         ensures few { result ≤ N }
     {
-        self.len
+        self.as_slice().len()
+    }
+
+    pub fn is_empty(&self) -> bool
+        ensures { result ≡ is_empty (listed self.now) }
+    {
+        self.len == 0
     }
 
     // One line more behind the last, or false where there are N.

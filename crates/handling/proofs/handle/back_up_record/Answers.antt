@@ -1,6 +1,5 @@
 -- The lines of a COMMIT-BACKUP go into the backups, and no others.
 use Rattle.std.proofs.Common.{length}
-use Rattle.protocol.specs.Record.{note}
 use Rattle.handling.specs.Fitting.{fitting_backup}
 use Rattle.handling.proofs.Truncating.{backs-up-lines, backs-up-none}
 use Rattle.handling.proofs.handle.back_up_record.Goals as goal
