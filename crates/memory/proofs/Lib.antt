@@ -1,5 +1,6 @@
 pub mod Blanks
 pub mod Changes
+pub mod Counting
 pub mod Joining
 pub mod Laws
 pub mod Packing

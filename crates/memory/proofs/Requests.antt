@@ -1,6 +1,6 @@
 -- One more request, and what it adds to the responses.
-use Rattle.std.proofs.Common.{◌≡◌, ℕ, ◌+◌, ◌<◌, Bool, ◌&&◌, List, [], ◌∷◌, ◌++◌, length, get_or, take, set, Decides, sym, refl, ap, ◌∙◌}
-use Rattle.std.proofs.lemmas.List.{take_more, take_more_set, same_from_push}
+use Rattle.std.proofs.Common.{◌≡◌, ℕ, ◌+◌, ◌<◌, Bool, ◌&&◌, List, [], ◌∷◌, ◌++◌, length, get_or, take, Decides, sym, refl, ap, ◌∙◌}
+use Rattle.std.proofs.lemmas.List.{take_more, same_from_push}
 use Rattle.std.proofs.lemmas.List.Sums.{fold_more}
 use Rattle.std.proofs.lemmas.Bool.Decides.{Decides-and, Decides-like}
 use Rattle.memory.specs.declared.request.Request.{Request}
@@ -18,17 +18,16 @@ module _ (ws vs : List Word) (qs : List Request) (i : ℕ) (within : i < length 
   pub words_after-more : (us : List Word) → us ≡ words_after vs (get_or qs i Size) → us ≡ words_after_all ws (take (i + 1) qs)
   words_after-more us e = e ∙ ap (λ (zs : List Word). words_after zs (get_or qs i Size)) sofar ∙ sym (fold_more words_after ws qs i Size within)
 
-  responses-more : responses ws (take (i + 1) qs) ≡ responses ws (take i qs) ++ response vs (get_or qs i Size) ∷ []
-  responses-more =
+  responses_next : responses ws (take (i + 1) qs) ≡ responses ws (take i qs) ++ response vs (get_or qs i Size) ∷ []
+  responses_next =
       ap (responses ws) (take_more qs i Size within)
       ∙ responses-push ws (take i qs) (get_or qs i Size)
       ∙ ap (λ (zs : List Word). responses ws (take i qs) ++ response zs (get_or qs i Size) ∷ []) (sym sofar)
 
-  -- the response stored
-  pub stored_more : (rs : List Response) (r : Response) → i < length rs → take i rs ≡ responses ws (take i qs) → r ≡ response vs (get_or qs i Size) →
-      take (i + 1) (set rs i r) ≡ responses ws (take (i + 1) qs)
-  stored_more rs r room same e =
-      take_more_set rs i r room ∙ ap (λ (xs : List Response). xs ++ r ∷ []) same ∙ ap (λ (x : Response). responses ws (take i qs) ++ x ∷ []) e ∙ sym responses-more
+  -- the response pushed
+  pub responses-more : (rs rs' : List Response) (r : Response) → rs ≡ responses ws (take i qs) → r ≡ response vs (get_or qs i Size) → rs' ≡ rs ++ r ∷ [] →
+      rs' ≡ responses ws (take (i + 1) qs)
+  responses-more rs rs' r same e pushed = pushed ∙ ap (λ (xs : List Response). xs ++ r ∷ []) same ∙ ap (λ (x : Response). responses ws (take i qs) ++ x ∷ []) e ∙ sym responses_next
 
 -- the responses of two memories compared
 pub alike-more : (ws vs ws' vs' : List Word) (qs : List Request) (i : ℕ) → i < length qs → vs ≡ words_after_all ws (take i qs) → vs' ≡ words_after_all ws' (take i qs) → (s t : Bool) →
@@ -39,5 +38,5 @@ alike-more ws vs ws' vs' qs i within sofar sofar' s t sames same =
     let ys = responses ws' (take i qs) in
     let x = response vs (get_or qs i Size) in
     let y = response vs' (get_or qs i Size) in
-    rw (responses-more ws vs qs i within sofar, responses-more ws' vs' qs i within sofar')
+    rw (responses_next ws vs qs i within sofar, responses_next ws' vs' qs i within sofar')
     (Decides-like (s && t) (λ e. rw (e.0, e.1) refl) (same_from_push xs ys x y) (Decides-and s t sames same))

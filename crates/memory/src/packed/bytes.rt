@@ -6,16 +6,7 @@ pub fn load(bytes: &[u8], place: usize) -> u64
     requires { place + 8 ≤ length bytes.now }
     ensures { result ≡ number_at bytes.now place }
 {
-    u64::from_be_bytes([
-        bytes[place],
-        bytes[place + 1],
-        bytes[place + 2],
-        bytes[place + 3],
-        bytes[place + 4],
-        bytes[place + 5],
-        bytes[place + 6],
-        bytes[place + 7],
-    ])
+    u64::from_be_bytes(bytes[place..place + 8].try_into().unwrap())
 }
 
 // Writes a number into the eight bytes from `place` on.
