@@ -1,7 +1,7 @@
-use Rattle.std.proofs.Common.{◌∙◌, ap, arith}
-use Rattle.std.proofs.lemmas.List.{take_all}
+use Rattle.std.proofs.Common.{arith}
 use Rattle.memory.proofs.Laws.{laws-hold}
 use Rattle.memory.proofs.Requests.{words_after-more, responses-more}
+use Rattle.std.proofs.lemmas.List.{take_all}
 use Rattle.memory.proofs.runs.run.Goals as goal
 
 pub loop-request-preserved : goal.loop-request-preserved
@@ -18,8 +18,8 @@ loop-request-preserved g c =
       words_after-more ws vs qs i within inv.3 _ c.ask-response.ensures.after,
     )
 
-pub returns : goal.returns
-returns g c =
+pub returns-clause-laws : goal.returns-clause-laws
+returns-clause-laws g c =
     let qs = c.args.requests.now in
     let inv = rw (take_all c.loop-request.request-index qs c.loop-request-test.false) at c.loop-request.invariant in
-    record { answers = inv.2; after = inv.3; laws = rw (inv.2, inv.3) (laws-hold (g.M.Memory.words c.args.memory.now) qs) }
+    rw (inv.2, inv.3) (laws-hold (g.M.Memory.words c.args.memory.now) qs)
