@@ -1,4 +1,3 @@
-pub mod Blanks
 pub mod Changes
 pub mod Counting
 pub mod Joining

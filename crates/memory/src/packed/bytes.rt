@@ -1,5 +1,5 @@
 ghost use Rattle.std.specs.Prelude.{◌≡◌, ◌+◌, ◌≤◌, length};
-ghost use Rattle.memory.specs.Packing.{number_at, Stored};
+ghost use Rattle.memory.specs.Packing.{number_at, with_number};
 
 // The number that stands in the eight bytes from `place` on.
 pub fn load(bytes: &[u8], place: usize) -> u64
@@ -12,7 +12,7 @@ pub fn load(bytes: &[u8], place: usize) -> u64
 // Writes a number into the eight bytes from `place` on.
 pub fn store(bytes: &mut [u8], place: usize, x: u64)
     requires { place + 8 ≤ length bytes.old }
-    ensures { Stored bytes.old place x bytes.new }
+    ensures { bytes.new ≡ with_number bytes.old place x }
 {
     bytes[place..place + 8].copy_from_slice(&x.to_be_bytes());
 }
