@@ -1,5 +1,5 @@
 pub mod Changes
-pub mod Counting
+pub mod Reading
 pub mod Joining
 pub mod Laws
 pub mod Packing

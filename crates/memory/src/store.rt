@@ -16,8 +16,7 @@ pub trait Store {
     // The word at an address.
     fn word(&self, address: usize) -> Word
         requires { address < length (words self.now) }
-        ensures value { result ≡ at (words self.now) address }
-        ensures proper { Proper result };
+        ensures { result ≡ at (words self.now) address };
 
     // Writes a word at an address.
     fn set_word(&mut self, address: usize, word: Word)

@@ -14,6 +14,7 @@ use std::alloc::Global;
 
 impl Packed {
     // A memory of n words, all zero.
+    #[tactic(auto, using(crate::proofs::Reading::making))]
     pub fn new(heap: Global, n: usize) -> Result<Self, MakeError>
         ensures { Making packed_words (sizeable n) (blanks n) result }
     {
@@ -47,7 +48,7 @@ impl Packed {
     }
 }
 
-#[tactic(auto, using(crate::proofs::Counting::counting))]
+#[tactic(auto, using(crate::proofs::Reading::counting))]
 impl Store for Packed {
     ghost words = { packed_words };
 
@@ -59,6 +60,7 @@ impl Store for Packed {
         self.bytes.len() / 16
     }
 
+    #[tactic(auto, using(crate::proofs::Reading::reading))]
     fn word(&self, address: usize) -> Word {
         let bytes = self.bytes.as_slice();
         let head = load(bytes, 16 * address);
