@@ -14,7 +14,7 @@ use std::alloc::Global;
 
 impl Packed {
     // A memory of n words, all zero.
-    #[tactic(auto, using(crate::proofs::Reading::making))]
+    #[tactic(auto, using(crate::proofs::Reading::packing))]
     pub fn new(heap: Global, n: usize) -> Result<Self, MakeError>
         ensures { Making packed_words (sizeable n) (blanks n) result }
     {
@@ -48,7 +48,7 @@ impl Packed {
     }
 }
 
-#[tactic(auto, using(crate::proofs::Reading::counting))]
+#[tactic(auto, using(crate::proofs::Reading::packing))]
 impl Store for Packed {
     ghost words = { packed_words };
 
@@ -60,7 +60,6 @@ impl Store for Packed {
         self.bytes.len() / 16
     }
 
-    #[tactic(auto, using(crate::proofs::Reading::reading))]
     fn word(&self, address: usize) -> Word {
         let bytes = self.bytes.as_slice();
         let head = load(bytes, 16 * address);
