@@ -7,7 +7,7 @@ use crate::request::{Request, Response, ask};
 use std::alloc::{AllocError, Global};
 
 // Makes the requests in order and gives the responses, or makes none of them where there is no room for the responses.
-#[tactic(auto, using(crate::proofs::Running::running))]
+#[tactic(auto, using(crate::proofs::Requests::running))]
 pub fn run<M: Memory>(
     heap: Global,
     memory: &mut M,
@@ -35,7 +35,7 @@ fn ask_both<A: Memory, B: Memory>(one: &mut A, other: &mut B, request: Request) 
 }
 
 // Makes the requests of two memories, and says whether all responses are alike.
-#[tactic(auto, using(crate::proofs::Running::running))]
+#[tactic(auto, using(crate::proofs::Requests::running))]
 pub fn alike<A: Memory, B: Memory>(one: &mut A, other: &mut B, requests: &[Request]) -> bool
     ensures { Compared (A.Memory.words one.old) (B.Memory.words other.old) requests.now result (A.Memory.words one.new) (B.Memory.words other.new) }
 {

@@ -14,7 +14,7 @@ use std::alloc::Global;
 
 impl Packed {
     // A memory of n words, all zero.
-    #[tactic(auto, using(crate::proofs::Reading::packing))]
+    #[tactic(auto, using(crate::proofs::Packing::packing))]
     pub fn new(heap: Global, n: usize) -> Result<Self, MakeError>
         ensures { Making packed_words (sizeable n) (blanks n) result }
     {
@@ -48,7 +48,7 @@ impl Packed {
     }
 }
 
-#[tactic(auto, using(crate::proofs::Reading::packing))]
+#[tactic(auto, using(crate::proofs::Packing::packing))]
 impl Store for Packed {
     ghost words = { packed_words };
 
