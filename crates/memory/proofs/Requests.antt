@@ -5,7 +5,6 @@ use Rattle.std.proofs.lemmas.List.Sums.{fold_more}
 use Rattle.std.proofs.lemmas.Bool.Decides.{Decides-and, Decides-like}
 use Rattle.memory.specs.declared.request.Request.{Request}
 use Rattle.memory.specs.declared.request.Request.TheVariants.{Size}
-use Rattle.memory.specs.declared.request.Response.{Response}
 use Rattle.memory.specs.declared.word.Word.{Word}
 use Rattle.memory.proofs.Laws.{laws-hold}
 use Rattle.memory.specs.Requests.{response, responses, words_after, words_after_all}

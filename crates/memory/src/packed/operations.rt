@@ -73,7 +73,7 @@ impl Store for Packed {
 
     fn set_word(&mut self, address: usize, word: Word) {
         let bytes = self.bytes.as_mut_slice();
-        let head = word.holder as u64 * VERSION_END + word.version;
+        let head = u64::from(word.holder) * VERSION_END + word.version;
         store(bytes, 16 * address, head);
         store(bytes, 16 * address + 8, word.value);
     }
