@@ -52,7 +52,7 @@ impl Packed {
 impl Store for Packed {
     ghost words = { packed_words };
 
-    ghost sized = { λ m. unpacked-sized m.bytes.items m.bytes.len m.bytes.ok.0 m.some m.few };
+    ghost sized = { λ m. unpacked-sized m.bytes.items m.some m.few };
 
     ghost proper = { λ m. unpacked-proper m.bytes.items };
 
