@@ -6,9 +6,10 @@ ghost use Rattle.steps.specs.declared.fault.RunFault.TheVariants.{Entry};
 
 use crate::frame::LIMIT;
 use protocol::call::Refusal;
+use std::fmt;
 
 // The bytes do not make a row of entries. `place` is where an entry begins.
-#[derive(Clone, Copy)]
+#[derive(Clone, Copy, Debug, PartialEq, Eq)]
 pub enum FrameFault {
     TooLong,
     BadVersion,
@@ -16,7 +17,7 @@ pub enum FrameFault {
 }
 
 // The entries do not make a row of steps.
-#[derive(Clone, Copy)]
+#[derive(Clone, Copy, Debug, PartialEq, Eq)]
 pub enum EntryFault {
     Frame(FrameFault),
     UnknownKind { place: usize },
@@ -25,7 +26,7 @@ pub enum EntryFault {
 }
 
 // The steps do not make a run.
-#[derive(Clone, Copy)]
+#[derive(Clone, Copy, Debug, PartialEq, Eq)]
 pub enum RunFault {
     Entry(EntryFault),
     SetUp { refusal: Refusal, place: usize },
@@ -59,7 +60,7 @@ impl RunFault {
             RunFault::Entry(EntryFault::UnknownKind { place: _ }) => 15,
             RunFault::Entry(EntryFault::WrongLength { place: _ }) => 16,
             RunFault::Entry(EntryFault::OutOfOrder { place: _ }) => 17,
-            RunFault::SetUp { refusal, place: _ } => refusal as u8 + 1,
+            RunFault::SetUp { refusal, place: _ } => u8::from(refusal),
         }
     }
 
@@ -88,5 +89,18 @@ impl RunFault {
                 place: _,
             } => 3,
         }
+    }
+}
+
+// The line that a run ends with.
+impl fmt::Display for RunFault {
+    fn fmt<W: fmt::Write>(&self, f: &mut fmt::Formatter<W>) -> fmt::Result {
+        write!(
+            f,
+            "fault {} {} {}",
+            self.cause(),
+            self.place(),
+            self.layer()
+        )
     }
 }

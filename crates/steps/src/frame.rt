@@ -38,12 +38,9 @@ impl<'a> Reader<'a> {
         if bytes.len() > LIMIT {
             return Err(FrameFault::TooLong);
         }
-        let Some(version) = bytes.first() else {
+        let [VERSION, ..] = bytes else {
             return Err(FrameFault::BadVersion);
         };
-        if *version != VERSION {
-            return Err(FrameFault::BadVersion);
-        }
         Ok(Reader {
             bytes,
             place: FIRST_PLACE,
