@@ -14,7 +14,7 @@ use protocol::call::Call;
 use protocol::plan::{Home, Plan};
 
 // What an entry asks for: a directory to be set up, or a call to be made.
-#[derive(Clone, Copy)]
+#[derive(Clone, Copy, Debug, PartialEq, Eq)]
 pub enum Step {
     SetUp(Plan),
     Call(Call),

@@ -1,6 +1,6 @@
 // What can be wrong with a step file, in three layers: its frame, an entry, the run.
-ghost use Rattle.std.specs.Prelude.{◌≡◌};
-ghost use Rattle.steps.specs.Faults.{frame_numbers, entry_numbers, run_numbers};
+ghost use Rattle.std.specs.Prelude.{◌≡◌, Some};
+ghost use Rattle.steps.specs.Faults.{frame_numbers, entry_numbers, run_numbers, text};
 ghost use Rattle.steps.specs.declared.fault.EntryFault.TheVariants.{Frame};
 ghost use Rattle.steps.specs.declared.fault.RunFault.TheVariants.{Entry};
 
@@ -92,15 +92,13 @@ impl RunFault {
     }
 }
 
-// The line that a run ends with.
 impl fmt::Display for RunFault {
+    ghost output = { λ fault. Some (text (run_numbers fault)) };
+
     fn fmt<W: fmt::Write>(&self, f: &mut fmt::Formatter<W>) -> fmt::Result {
-        write!(
-            f,
-            "fault {} {} {}",
-            self.cause(),
-            self.place(),
-            self.layer()
-        )
+        let cause = self.cause();
+        let place = self.place();
+        let layer = self.layer();
+        write!(f, "fault {cause} {place} {layer}")
     }
 }
