@@ -1,15 +1,17 @@
 -- Entries that were written as a file are read back.
 use Rattle.std.proofs.Common.{◌≡◌, ℕ, ◌+◌, ◌*◌, ◌/◌, ◌%◌, ◌<◌, true, leb, List, [], ◌∷◌, ◌++◌, length, get_or, take, drop, None, Ok, sym, refl, ap, ◌∙◌, subst, arith, length-append}
 use lib.Seq.{drop-append-add}
+use Rattle.std.specs.Int.{from_be_bytes}
 use Rattle.std.specs.List.{flat_map, AllByRecursion}
+use Rattle.std.proofs.lemmas.Nat.{from_be_bytes-to_be_bytes_2}
 use Rattle.std.proofs.lemmas.List.{append-nil, append_assoc, get_or_at, get_or-append-add, take_at}
 use Rattle.std.proofs.lemmas.Bool.{le-leb, lt-leb, cond-true, cond-false}
 use Rattle.steps.specs.Bytes.{two_at}
+use mir.Syntax.{w16}
 use Rattle.steps.specs.Frames.{Position, at, opened, entry_at, passed, is_whole, end_of, entry}
 use Rattle.steps.specs.Writing.{with_length, written}
 use Rattle.steps.specs.Laws.{listed, handed, reached, ReadsBack}
 use Rattle.steps.proofs.Cutting.{passed-whole, listed-whole, opened-at}
-use Rattle.steps.proofs.Numbers.{number-big-endian}
 
 -- an entry that was written behind `pre`
 module _ (pre e rest : List ℕ) (short : length e < 65536) where
@@ -21,9 +23,9 @@ module _ (pre e rest : List ℕ) (short : length e < 65536) where
       let ys = with_length e ++ rest in
       let high = get_or_at pre (length e / 256 % 256) (length e % 256 ∷ (e ++ rest)) 0 (length pre) refl in
       let low = get_or-append-add pre ys 1 0 in
-      ap (λ h. (0 * 256 + h) * 256 + get_or (pre ++ ys) (length pre + 1) 0) high
-      ∙ ap (λ l. (0 * 256 + length e / 256 % 256) * 256 + l) low
-      ∙ number-big-endian 2 (length e) short
+      ap (λ h. from_be_bytes w16 (h ∷ get_or (pre ++ ys) (length pre + 1) 0 ∷ [])) high
+      ∙ ap (λ l. from_be_bytes w16 (length e / 256 % 256 ∷ l ∷ [])) low
+      ∙ from_be_bytes-to_be_bytes_2 (length e) short
 
   end-there : end_of behind ≡ length (pre ++ with_length e)
   end-there = omega (arith, size-there, length-append pre (with_length e))

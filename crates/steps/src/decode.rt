@@ -60,15 +60,6 @@ fn write(e: &[u8]) -> Option<Call>
     Some(Call::Write(*coordinator, address, value))
 }
 
-fn eight_bytes(e: &[u8], i: usize) -> u64
-    requires { i + 8 ≤ length e.now }
-    ensures { result ≡ eight_at e.now i }
-{
-    let mut bytes = [0; 8];
-    bytes.copy_from_slice(&e[i..i + 8]);
-    u64::from_be_bytes(bytes)
-}
-
 fn home_of(e: &[u8], region: usize) -> Home
     requires { 21 + 3 * regions e.now ≤ length e.now }
     ensures { result ≡ home e.now region }
@@ -95,10 +86,12 @@ fn homes_of(e: &[u8]) -> [Home; 8]
 fn plan_of(e: &[u8]) -> Option<Plan>
     ensures { result ≡ sized e.now (21 + 3 * regions e.now) (plan e.now) }
 {
-    let [_, machines, coordinators, regions, capacity, ..] = e else {
+    let [_, machines, coordinators, regions, capacity, rest @ ..] = e else {
         return None;
     };
-    if e.len() != 21 + 3 * *regions as usize {
+    let (start, rest) = rest.split_first_chunk::<8>()?;
+    let (first, homes) = rest.split_first_chunk::<8>()?;
+    if homes.len() != 3 * *regions as usize {
         return None;
     }
     Some(Plan {
@@ -106,8 +99,8 @@ fn plan_of(e: &[u8]) -> Option<Plan>
         coordinators: *coordinators,
         regions: *regions,
         capacity: *capacity,
-        start: eight_bytes(e, 5),
-        first: eight_bytes(e, 13),
+        start: u64::from_be_bytes(*start),
+        first: u64::from_be_bytes(*first),
         homes: homes_of(e),
     })
 }
