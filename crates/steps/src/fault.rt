@@ -56,11 +56,11 @@ impl RunFault {
         match self {
             RunFault::Entry(EntryFault::Frame(FrameFault::TooLong)) => 12,
             RunFault::Entry(EntryFault::Frame(FrameFault::BadVersion)) => 13,
-            RunFault::Entry(EntryFault::Frame(FrameFault::CutShort { place: _ })) => 14,
-            RunFault::Entry(EntryFault::UnknownKind { place: _ }) => 15,
-            RunFault::Entry(EntryFault::WrongLength { place: _ }) => 16,
-            RunFault::Entry(EntryFault::OutOfOrder { place: _ }) => 17,
-            RunFault::SetUp { refusal, place: _ } => u8::from(refusal),
+            RunFault::Entry(EntryFault::Frame(FrameFault::CutShort { .. })) => 14,
+            RunFault::Entry(EntryFault::UnknownKind { .. }) => 15,
+            RunFault::Entry(EntryFault::WrongLength { .. }) => 16,
+            RunFault::Entry(EntryFault::OutOfOrder { .. }) => 17,
+            RunFault::SetUp { refusal, .. } => u8::from(refusal),
         }
     }
 
@@ -70,11 +70,11 @@ impl RunFault {
         match self {
             RunFault::Entry(EntryFault::Frame(FrameFault::TooLong)) => LIMIT,
             RunFault::Entry(EntryFault::Frame(FrameFault::BadVersion)) => 0,
-            RunFault::Entry(EntryFault::Frame(FrameFault::CutShort { place })) => place,
-            RunFault::Entry(EntryFault::UnknownKind { place }) => place,
-            RunFault::Entry(EntryFault::WrongLength { place }) => place,
-            RunFault::Entry(EntryFault::OutOfOrder { place }) => place,
-            RunFault::SetUp { refusal: _, place } => place,
+            RunFault::Entry(EntryFault::Frame(FrameFault::CutShort { place }))
+            | RunFault::Entry(EntryFault::UnknownKind { place })
+            | RunFault::Entry(EntryFault::WrongLength { place })
+            | RunFault::Entry(EntryFault::OutOfOrder { place })
+            | RunFault::SetUp { place, .. } => place,
         }
     }
 
@@ -84,10 +84,7 @@ impl RunFault {
         match self {
             RunFault::Entry(EntryFault::Frame(_)) => 1,
             RunFault::Entry(_) => 2,
-            RunFault::SetUp {
-                refusal: _,
-                place: _,
-            } => 3,
+            RunFault::SetUp { .. } => 3,
         }
     }
 }
