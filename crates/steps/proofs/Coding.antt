@@ -159,23 +159,23 @@ module _ (e : List ℕ) (byte : (i : ℕ) → get_or e i 0 < 256) where
 
 -- a decoded step was found among the kinds
 checked-ok : (place : ℕ) (o : Option (Option Step)) (s : Step) → checked place o ≡ Ok s → o ≡ Some (Some s)
-checked-ok place None s h = let z : ◌≡◌ {A = ℕ} 0 1 = cc in absurd (omega arith)
-checked-ok place (Some None) s h = let z : ◌≡◌ {A = ℕ} 0 1 = cc in absurd (omega arith)
+checked-ok place None s h = cc
+checked-ok place (Some None) s h = cc
 checked-ok place (Some (Some t)) s h = ordered (is_in_order place t) h
   where
     ordered : (b : Bool) → ◌≡◌ {A = Result Step EntryFault} (cond b (Ok t) (Err (OutOfOrder place))) (Ok s) → ◌≡◌ {A = Option (Option Step)} (Some (Some t)) (Some (Some s))
     ordered true h = cc
-    ordered false h = let z : ◌≡◌ {A = ℕ} 0 1 = cc in absurd (omega arith)
+    ordered false h = cc
 
 decoded-ok : (place : ℕ) (e : List ℕ) (s : Step) → decoded place e ≡ Ok s → slice_get (steps e) (get_or e 0 0) ≡ Some (Some s)
 decoded-ok place e s h = held (eqb (length e) 0) h
   where
     held : (b : Bool) → ◌≡◌ {A = Result Step EntryFault} (cond b (Err (WrongLength place)) (checked place (slice_get (steps e) (get_or e 0 0)))) (Ok s) → slice_get (steps e) (get_or e 0 0) ≡ Some (Some s)
-    held true h = let z : ◌≡◌ {A = ℕ} 0 1 = cc in absurd (omega arith)
+    held true h = cc
     held false h = checked-ok place (slice_get (steps e) (get_or e 0 0)) s h
 
-pub encodes_back : (place : ℕ) (e : List ℕ) (s : Step) → ((i : ℕ) → get_or e i 0 < 256) → decoded place e ≡ Ok s → EncodesBack e s
-encodes_back place e s byte h keeps =
+pub encodes-back : (place : ℕ) (e : List ℕ) (s : Step) → ((i : ℕ) → get_or e i 0 < 256) → decoded place e ≡ Ok s → EncodesBack e s
+encodes-back place e s byte h keeps =
     row_at e 0 (get_or e 0 0) (steps e) (rows e byte) (Some s) (decoded-ok place e s h) s refl (omega arith) keeps
 
 -- the bytes of homes, three by three
@@ -205,10 +205,7 @@ home-there (h ∷ hs) (suc r) l =
     }
 
 same_home : (a b c : ℕ) (h : Home) → a ≡ h.primary → b ≡ h.first → c ≡ h.second → ◌≡◌ {A = Home} (record { primary = a; first = b; second = c }) h
-same_home a b c h p q r =
-    ap (λ (x : ℕ). record { primary = x; first = b; second = c }) p
-    ∙ ap (λ (x : ℕ). record { primary = h.primary; first = x; second = c }) q
-    ∙ ap (λ (x : ℕ). record { primary = h.primary; first = h.first; second = x }) r
+same_home a b c h p q r = λ i. record { primary = p i; first = q i; second = r i }
 
 module _ (p : Plan) (fits : Encodable (SetUp p)) where
   abbrev head : List ℕ
@@ -272,6 +269,6 @@ call_back (Take c m) place fits o = cond-true (not (eqb place 1)) _ _ o
 call_back (Check c) place fits o = cond-true (not (eqb place 1)) _ _ o
 call_back (Trim c m) place fits o = cond-true (not (eqb place 1)) _ _ o
 
-pub decodes_back : (s : Step) → DecodesBack (encoded s) s
-decodes_back (SetUp p) place fits o = set_up-back p fits place o
-decodes_back (ACall c) place fits o = call_back c place fits o
+pub decodes-back : (s : Step) → DecodesBack (encoded s) s
+decodes-back (SetUp p) place fits o = set_up-back p fits place o
+decodes-back (ACall c) place fits o = call_back c place fits o

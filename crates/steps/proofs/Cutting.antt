@@ -7,7 +7,7 @@ use Rattle.std.specs.Int.{bytes_high_first}
 use Rattle.std.specs.List.{flat_map}
 use Rattle.std.proofs.lemmas.Nat.{be_bytes_2}
 use Rattle.std.proofs.lemmas.List.{append-nil, append_assoc, drop_more}
-use Rattle.std.proofs.lemmas.Bool.{leb-true, ltb-true, eqb-true, and_parts, cond-true, cond-false}
+use Rattle.std.proofs.lemmas.Bool.{le-leb, lt-leb, leb-true, ltb-true, eqb-true, and_parts, cond-true, cond-false}
 use Rattle.steps.specs.Bytes.{two_at}
 use Rattle.steps.specs.Frames.{Position, at, opened, entry_at, passed, is_whole, end_of, entry}
 use Rattle.steps.specs.Writing.{with_length, written}
@@ -51,6 +51,12 @@ pub listed-other : (p : Position) → is_whole p ≡ false → listed (entry_at 
 listed-other p t =
     ap listed (cond-false (is_whole p) (Ok (Some (entry p))) (cond (leb (length p.file) p.place) (Ok None) (Err (CutShort p.place))) t)
     ∙ none-listed p (leb (length p.file) p.place)
+
+-- nothing is read behind the last byte
+pub nothing-behind : (p : Position) → length p.file ≤ p.place → entry_at p ≡ Ok None
+nothing-behind p h =
+    cond-false (is_whole p) _ _ (lt-leb (end_of p) (length p.file) (omega (arith, h)))
+    ∙ cond-true (leb (length p.file) p.place) _ _ (le-leb (length p.file) p.place h)
 
 -- what was read before, and then the entries that `n` calls hand out
 SoFar : ℕ → Position → Type 0

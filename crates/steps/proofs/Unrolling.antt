@@ -1,16 +1,10 @@
 -- The steps from a position on are the one that is read there, and then the steps from behind it on.
-use Rattle.std.proofs.Common.{◌≡◌, ℕ, zero, suc, ◌+◌, ◌-◌, ◌≤◌, leb, [], ◌∷◌, length, Some, None, Ok, Err, Option, Result, sym, refl, ap, ◌∙◌, arith}
-use Rattle.std.proofs.lemmas.Bool.{le-leb, lt-leb, cond-true, cond-false}
+use Rattle.std.proofs.Common.{◌≡◌, ℕ, zero, suc, ◌+◌, ◌-◌, ◌≤◌, [], ◌∷◌, length, Some, None, Ok, Err, Option, Result, sym, refl, ap, ◌∙◌, arith}
 use Rattle.steps.specs.declared.fault.EntryFault.{EntryFault}
 use Rattle.steps.specs.declared.sequence.Placed.{Placed}
-use Rattle.steps.specs.Frames.{Position, at, entry_at, is_whole, end_of}
+use Rattle.steps.specs.Frames.{Position, at, end_of}
+use Rattle.steps.proofs.Cutting.{nothing-behind}
 use Rattle.steps.specs.Sequence.{step_of, step_at, moved, and_then, sequence, steps_from}
-
--- nothing is read behind the last byte
-pub nothing-behind : (p : Position) → length p.file ≤ p.place → entry_at p ≡ Ok None
-nothing-behind p h =
-    cond-false (is_whole p) _ _ (lt-leb (end_of p) (length p.file) (omega (arith, h)))
-    ∙ cond-true (leb (length p.file) p.place) _ _ (le-leb (length p.file) p.place h)
 
 none-behind : (n : ℕ) (p : Position) → length p.file ≤ p.place → sequence n p ≡ []
 unfolding sequence

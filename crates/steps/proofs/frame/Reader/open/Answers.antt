@@ -1,7 +1,7 @@
 -- An opened file is read without loss, and what was written as a file is read back.
-use Rattle.std.proofs.Common.{◌≡◌, ◌<◌, Ok, refl, rules}
+use Rattle.std.proofs.Common.{◌<◌, rules}
 use Rattle.std.proofs.ByRecursion.{All-from_get_or}
-use Rattle.steps.specs.Frames.{at, opened}
+use Rattle.steps.specs.Frames.{at}
 use Rattle.steps.proofs.Cutting.{lossless}
 use Rattle.steps.proofs.Rereading.{reads-back}
 use Rattle.steps.proofs.frame.Reader.open.Goals as goal
