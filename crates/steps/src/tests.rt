@@ -102,17 +102,10 @@ fn sheet(rt: HostRuntime) -> Result<(), Fail> {
         ),
         (1, 2, 0)
     );
-    let Some(last) = step(SHEET, 3) else {
-        return Err(Fail::new("no last step"));
+    let last = Placed {
+        place: 37,
+        step: Step::Call(Call::Write(0, 5, 112)),
     };
-    let Step::Call(call) = last.step else {
-        return Err(Fail::new("no call"));
-    };
-    match call {
-        Call::Write(c, address, value) => {
-            assert_eq!(rt; (last.place, c, address, value), (37, 0, 5, 112));
-            Ok(())
-        },
-        _ => Err(Fail::new("no write")),
-    }
+    assert_eq!(rt; step(SHEET, 3), Some(last));
+    Ok(())
 }
