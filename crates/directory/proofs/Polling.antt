@@ -6,9 +6,8 @@ use Rattle.std.proofs.ByRecursion.{All-append}
 use Rattle.std.proofs.lemmas.List.{drop-set-lt}
 use Rattle.std.proofs.lemmas.Bool.{ltb-true}
 use Rattle.ring.specs.declared.Ring.{Ring}
-use Rattle.ring.specs.Contents.{contents}
+use Rattle.ring.specs.Contents.{empty_ring, contents}
 use Rattle.ring.specs.Contents as ring
-use Rattle.ring.proofs.Rings.{no_ring}
 use Rattle.ring.proofs.Rotated.{length-contents}
 use Rattle.memory.specs.Words.{at, Proper}
 use Rattle.protocol.specs.declared.plan.Plan.{Plan}
@@ -222,17 +221,17 @@ module _ (p : Plan) (w : World) (c m : ℕ) (in' : Inside p w c) where
     module _ (words : (a : ℕ) → Proper (at w.primaries a)) (d : Coordinator) where
       abbrev Polls : Coordinator → Coordinator → List Record → List Reply → ℕ → Type 0
       Polls e o part answers j =
-          (x : Record) → (ring.Sound (get_or e.logs m no_ring) (length part) → NextIs (notes (get_or e.logs m no_ring) part) (get_or e.logs m no_ring).cursor (Some x))
+          (x : Record) → (ring.Sound (get_or e.logs m empty_ring) (length part) → NextIs (notes (get_or e.logs m empty_ring) part) (get_or e.logs m empty_ring).cursor (Some x))
           → (n : ℕ) (t : Option Bool) (a b z : Words)
-          → (Ready p (get_or e.logs m no_ring) part w.primaries w.firsts w.seconds → Lines p (note x).lines → c < 15
-          → effect n t a b z ≡ handled p c m w.primaries w.firsts w.seconds (polled (get_or e.logs m no_ring) part) (note x) x.kind)
+          → (Ready p (get_or e.logs m empty_ring) part w.primaries w.firsts w.seconds → Lines p (note x).lines → c < 15
+          → effect n t a b z ≡ handled p c m w.primaries w.firsts w.seconds (polled (get_or e.logs m empty_ring) part) (note x) x.kind)
           → (r q : Ring) (ys : List Reply) → length ys ≡ length answers
-          → (ring.Sound (get_or o.logs m no_ring) (length part) → ring.Sound r (length part))
-          → (ring.Sound (get_or o.logs m no_ring) (length part) → (y : Record) → NextIs (notes (get_or o.logs m no_ring) part) (get_or o.logs m no_ring).cursor (Some y)
-          → log_of r part ≡ passed_log (polled (get_or o.logs m no_ring) part) (note y) (drop ((get_or o.logs m no_ring).cursor + 1) (notes (get_or o.logs m no_ring) part)) x.kind)
-          → (ring.Sound (get_or o.queues m no_ring) (length answers) → ring.Sound q (length answers))
-          → (ring.Sound (get_or o.queues m no_ring) (length answers) → (get_or o.queues m no_ring).len < length answers
-          → contents q ys ≡ replied (contents (get_or o.queues m no_ring) answers) x.number t)
+          → (ring.Sound (get_or o.logs m empty_ring) (length part) → ring.Sound r (length part))
+          → (ring.Sound (get_or o.logs m empty_ring) (length part) → (y : Record) → NextIs (notes (get_or o.logs m empty_ring) part) (get_or o.logs m empty_ring).cursor (Some y)
+          → log_of r part ≡ passed_log (polled (get_or o.logs m empty_ring) part) (note y) (drop ((get_or o.logs m empty_ring).cursor + 1) (notes (get_or o.logs m empty_ring) part)) x.kind)
+          → (ring.Sound (get_or o.queues m empty_ring) (length answers) → ring.Sound q (length answers))
+          → (ring.Sound (get_or o.queues m empty_ring) (length answers) → (get_or o.queues m empty_ring).len < length answers
+          → contents q ys ≡ replied (contents (get_or o.queues m empty_ring) answers) x.number t)
           → (first : ℕ) → first ≡ number_of x.kind
           → Does p w (world (set w.coordinators c (record { work = o.work; logs = set o.logs m r; queues = set o.queues m q })) w.records (put_mid ((c * p.machines + m) * 4) j w.replies ys) a b z)
           (Ok (answered first n Going)) (Poll c m)
@@ -253,7 +252,7 @@ module _ (p : Plan) (w : World) (c m : ℕ) (in' : Inside p w c) where
           (subst (λ (z : ℕ). Polls (get_or w.coordinators c d) (get_or w.coordinators c d) slots places z) (sym four) whole)))
 
     pub nothing-polled : (e : Coordinator) (part : List Record) → part ≡ slots
-        → (ring.Sound (get_or (get_or w.coordinators c e).logs m no_ring) (length part) → drop (get_or (get_or w.coordinators c e).logs m no_ring).cursor (notes (get_or (get_or w.coordinators c e).logs m no_ring) part) ≡ [])
+        → (ring.Sound (get_or (get_or w.coordinators c e).logs m empty_ring) (length part) → drop (get_or (get_or w.coordinators c e).logs m empty_ring).cursor (notes (get_or (get_or w.coordinators c e).logs m empty_ring) part) ≡ [])
         → Does p w w (Err Nothing) (Poll c m)
     nothing-polled e part same =
         subst

@@ -6,10 +6,9 @@ use Rattle.std.proofs.lemmas.List.{drop-set-lt, set-get_or}
 use Rattle.std.proofs.lemmas.Bool.{lt-ltb, le-leb, and_from, ltb-true, cond-true}
 use Rattle.memory.specs.Words.{at, Proper}
 use Rattle.ring.specs.declared.Ring.{Ring}
-use Rattle.ring.specs.Contents.{contents, holds_n, without_front}
+use Rattle.ring.specs.Contents.{empty_ring, contents, holds_n, without_front}
 use Rattle.ring.specs.Contents as ring
 use Rattle.ring.specs.Rings.{block}
-use Rattle.ring.proofs.Rings.{no_ring}
 use Rattle.ring.proofs.Rotated.{slot-below, contents-drop}
 use Rattle.protocol.specs.declared.plan.Plan.{Plan}
 use Rattle.protocol.specs.declared.record.Reply.{Reply}
@@ -79,7 +78,7 @@ take_beyond p w c m in' l =
 
 module _ (p : Plan) (w : World) (c m : ℕ) (in' : Inside p w c) (below : m < p.machines) where
   abbrev queue_of : Coordinator → Ring
-  queue_of co = get_or co.queues m no_ring
+  queue_of co = get_or co.queues m empty_ring
 
   -- the slots of the queue, as the code cuts them out
   abbrev part : List Reply
@@ -206,6 +205,6 @@ module _ (p : Plan) (w : World) (c m : ℕ) (in' : Inside p w c) (below : m < p.
             takes-reply =
                 changes p w (Take c m) in' (proper p w (Take c m) in' words d) d changed w.records w.replies (λ j y _. refl) acc accepted own-after
                 (λ s.
-                pairs.rings-after p w c m in' below d s changed (pairs.log_ring p w c m in' below d) new (sym (set-get_or then.logs m no_ring)) refl
+                pairs.rings-after p w c m in' below d s changed (pairs.log_ring p w c m in' below d) new (sym (set-get_or then.logs m empty_ring)) refl
                 (pairs.log-stands p w c m in' below d s) (new-stands s))
                 (record { coordinators = drop-set-lt _ _ _ _ (ltb-true c p.coordinators (sym in'.below)); records = refl; replies = refl })

@@ -52,11 +52,8 @@ pub fn truncate<F: Memory, S: Memory>(
         → backups result (F.Memory.words firsts.new) (S.Memory.words seconds.new) ≡ back_up_records plan.now m (polled log.now.ring.now log.now.slots.now) (backups 0 (F.Memory.words firsts.old) (S.Memory.words seconds.old)) }
 {
     let mut puts: usize = 0;
-    for i in 0..log.ring.cursor {
-        let Some(entry) = log.record(i) else {
-            return puts;
-        };
-        puts = puts.saturating_add(back_up_record(plan, m, &entry, firsts, seconds));
+    for entry in log.polled() {
+        puts = puts.saturating_add(back_up_record(plan, m, entry, firsts, seconds));
     }
     puts
 }

@@ -1,7 +1,8 @@
 // Looking through a log.
-ghost use Rattle.std.specs.Prelude.{◌≡◌, length, ◌==◌};
+ghost use Rattle.std.specs.Prelude.{◌≡◌, length, take};
 ghost use Rattle.std.specs.List.{find};
-ghost use Rattle.ring.specs.Contents.{Sound};
+ghost use Rattle.ring.specs.Contents.{Sound, contents};
+ghost use Rattle.ring.specs.Left.{left};
 ghost use Rattle.protocol.specs.LineVec.{listed};
 ghost use Rattle.protocol.specs.Record.{note, is_untrimmed};
 ghost use Rattle.protocol.specs.Poll.{is_lock_of, locked_lines};
@@ -10,6 +11,7 @@ ghost use Rattle.handling.specs.Notes.{notes, polled, noted, NextIs};
 use protocol::lines::LineVec;
 use protocol::record::{Kind, Record};
 use ring::Ring;
+use ring::entries::Entries;
 
 // A log: its ring, and the slots that its records lie in.
 #[derive(Clone, Copy)]
@@ -26,6 +28,13 @@ impl<'a> Log<'a> {
         self.ring.peek(self.slots, i)
     }
 
+    // The polled records, from the oldest on.
+    pub(crate) fn polled(&self) -> Entries<'a, Record>
+        ensures { Sound self.now.ring.now (length self.now.slots.now) → left result ≡ take self.now.ring.now.cursor (contents self.now.ring.now self.now.slots.now) }
+    {
+        self.ring.polled(self.slots)
+    }
+
     // The next record to be polled.
     pub fn next(&self) -> Option<Record>
         ensures { Sound self.now.ring.now (length self.now.slots.now) → NextIs (notes self.now.ring.now self.now.slots.now) self.now.ring.now.cursor result }
@@ -37,15 +46,10 @@ impl<'a> Log<'a> {
     pub fn find_lock(&self, number: u64) -> Option<Record>
         ensures { Sound self.now.ring.now (length self.now.slots.now) → noted result ≡ find (is_lock_of number) (polled self.now.ring.now self.now.slots.now) }
     {
-        for i in (0..self.ring.cursor).rev() {
-            let Some(entry) = self.record(i) else {
-                return None;
-            };
-            if is_lock_of(&entry, number) {
-                return Some(entry);
-            }
-        }
-        None
+        self.polled()
+            .rev()
+            .find(|entry| is_lock_of(entry, number))
+            .copied()
     }
 
     // The lines of that LOCK.

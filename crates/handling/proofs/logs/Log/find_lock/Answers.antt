@@ -1,21 +1,22 @@
 -- The polled records are gone through from the newest.
-use Rattle.std.proofs.Common.{sym, ◌∙◌, arith}
-use Rattle.protocol.specs.Poll.{is_lock_of}
+use Rattle.std.proofs.Common.{◌≡◌, map, take, sym, ap, ◌∙◌, rules}
+use borrow.Author.Tests.{tests}
+use Rattle.std.proofs.lemmas.List.{take-map}
+use Rattle.std.proofs.lemmas.Iterator.Search.{find_from_yields_List}
+use Rattle.ring.specs.Contents.{contents}
+use Rattle.ring.specs.Left.{left}
+use Rattle.ring.proofs.Going.{YieldsList-from_rev_entries}
 use Rattle.protocol.specs.Record.{note}
-use Rattle.handling.specs.Notes.{notes}
-use Rattle.handling.proofs.Peeks.{peek-there}
-use Rattle.handling.proofs.Newest.{newest-found, newest-earlier}
+use Rattle.protocol.specs.Poll.{is_lock_of}
+use Rattle.handling.specs.Notes.{notes, noted}
+use Rattle.handling.proofs.Finding.{seen_copied}
 use Rattle.handling.proofs.logs.Log.find_lock.Goals as goal
 
-pub returns-in_default : goal.returns-in_default
-returns-in_default c = λ s. absurd (peek-there c.args.self.now.ring.now c.args.self.now.slots.now _ s (omega (arith, s.cursor)) (c.in_default.ensures s))
-
-pub returns-then-is_lock_of : goal.returns-then-is_lock_of
-returns-then-is_lock_of c = λ s.
-    sym (newest-found (is_lock_of c.args.number) (notes c.args.self.now.ring.now c.args.self.now.slots.now) c.loop-i.i (note c.in-Some.entry) _ c.loop-i-test.true (c.in-Some.ensures s) (sym c.if-is_lock_of.ensures))
-    ∙ c.loop-i.invariant s
-
-pub loop-i-preserved : goal.loop-i-preserved
-loop-i-preserved c = λ s.
-    newest-earlier (is_lock_of c.args.number) (notes c.args.self.now.ring.now c.args.self.now.slots.now) c.loop-i.i (note c.in-Some.entry) _ c.loop-i-test.true (c.in-Some.ensures s) (sym c.if-is_lock_of.ensures)
-    ∙ c.loop-i.invariant s
+pub returns : goal.returns
+returns c = λ s.
+    let all : map note (left c.polled.result) ≡ take c.args.self.now.ring.now.cursor (notes c.args.self.now.ring.now c.args.self.now.slots.now) =
+    ap (map note) (c.polled.ensures s) ∙ sym (take-map note c.args.self.now.ring.now.cursor (contents c.args.self.now.ring.now c.args.self.now.slots.now)) in
+    let road = YieldsList-from_rev_entries note _ (ap (λ e. map note (left e)) c.rev.ensures.source ∙ all) in
+    ap noted c.copied.ensures
+    ∙ seen_copied note c.find.result
+    ∙ find_from_yields_List (is_lock_of c.args.number) c.find.new.self _ c.find.result c.find.ensures.ran road (λ x b q k. search (rules, tests))
