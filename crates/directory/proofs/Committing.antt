@@ -1,17 +1,16 @@
 -- What commit does on each way out.
 use Rattle.std.proofs.Common.{◌≡◌, ℕ, suc, ◌*◌, ◌^◌, ◌<◌, ◌≤◌, Bool, true, false, length, get_or, set, Some, None, Ok, Err, sym, ap, ◌∙◌, subst, arith}
+use Rattle.std.specs.List.{list_all}
 use Rattle.std.proofs.lemmas.Bool.{ltb-true}
 use Rattle.memory.specs.Words.{at, Proper}
 use Rattle.protocol.specs.declared.plan.Plan.{Plan}
 use Rattle.protocol.specs.declared.call.Call.TheVariants.{Commit}
 use Rattle.protocol.specs.declared.call.Outcome.{Outcome}
 use Rattle.protocol.specs.declared.call.Refusal.TheVariants.{WrongPhase, UsedUp, NoRoom}
-use Rattle.protocol.specs.Lists.{all_by}
 use Rattle.protocol.specs.Plan.{machine_list}
 use Rattle.protocol.specs.Room.{is_roomy}
 use Rattle.protocol.specs.Call.{answered}
 use Rattle.protocol.specs.Commit.{begin, first_phase, first_outcome}
-use Rattle.protocol.proofs.Begins.{outcome_by-counts}
 use Rattle.protocol.proofs.Moves.{commits}
 use Rattle.protocol.proofs.Accepts.{accepts}
 use Rattle.protocol.proofs.Refusals as refusals
@@ -22,10 +21,10 @@ use Rattle.directory.specs.View.{World, world, own, phase_of, next_of, reads_of,
 use Rattle.directory.specs.Sound.{Sound, Rings}
 use Rattle.directory.specs.Work.{StandsFor}
 use Rattle.directory.specs.Calls.{Does}
-use Rattle.directory.specs.Commits.{roomy_at, outcome_by}
+use Rattle.directory.specs.Commits.{roomy_at}
 use Rattle.directory.proofs.Plans.{Sizes, sizes-of, fits-of}
 use Rattle.directory.proofs.Doing.{Inside, refuses, rings-of}
-use Rattle.directory.proofs.Working.{is_open, not-open, as-open, count-reads, count-writes, with_work, own_left, work-changes, same-entry}
+use Rattle.directory.proofs.Working.{is_open, not-open, as-open, with_work, own_left, work-changes, same-entry}
 use Rattle.directory.proofs.Rooms.{room-is}
 
 module _ (p : Plan) (w : World) (c : ℕ) (in' : Inside p w c) (e : Coordinator) where
@@ -56,7 +55,7 @@ module _ (p : Plan) (w : World) (c : ℕ) (in' : Inside p w c) (e : Coordinator)
         (λ s. refusals.commit-used-up p _ c (is_open p first.work _ is) (subst (λ (n : ℕ). 2 ^ 64 ≤ n) (sym (ap next_of q)) (omega arith)))
 
     module _ (number : ℕ) (next : first.work.next ≡ Some number) (small : number < 2 ^ 64) (room : Bool)
-        (told : Rings p first → room ≡ all_by (roomy_at p c first w.records) (machine_list p)) where
+        (told : Rings p first → room ≡ list_all (roomy_at p c first w.records) (machine_list p)) where
       room-so : (d : Coordinator) → Sound p w → is_roomy p (begin p (own p w.records w.replies c first)) ≡ room
       room-so d s =
           let r = rings-of p w (Commit c) in' e s in
@@ -83,7 +82,7 @@ module _ (p : Plan) (w : World) (c : ℕ) (in' : Inside p w c) (e : Coordinator)
         room-then : Sound p w → is_roomy p (begin p (own p w.records w.replies c then)) ≡ true
         room-then s = subst (λ (z : Coordinator). is_roomy p (begin p (own p w.records w.replies c z)) ≡ true) same (room-so e s ∙ sym yes')
 
-        pub commit-begins : (o : Outcome) → o ≡ outcome_by first.work.nreads first.work.nwrites → (n : ℕ) → n ≡ suc number
+        pub commit-begins : (o : Outcome) → o ≡ first_outcome (reads_of first.work) (writes_of first.work) → (n : ℕ) → n ≡ suc number
             → (p.machines ≤ 5 → StandsFor p t (first_phase p (reads_of then.work) (writes_of then.work)) n (reads_of then.work) (writes_of then.work))
             → Does p w after (Ok (answered number 0 o)) (Commit c)
         unfolding own
@@ -93,8 +92,7 @@ module _ (p : Plan) (w : World) (c : ℕ) (in' : Inside p w c) (e : Coordinator)
             (λ s.
             let moved : number ≡ next_of then.work.next = sym (ap next_of next-then) in
             let o_is : first_outcome (reads_of then.work) (writes_of then.work) ≡ o =
-            outcome_by-counts (reads_of then.work) (writes_of then.work) then.work.nreads then.work.nwrites (count-reads then.work) (count-writes then.work)
-            ∙ sym (subst (λ (z : Coordinator). o ≡ outcome_by z.work.nreads z.work.nwrites) same ends) in
+            sym (subst (λ (z : Coordinator). o ≡ first_outcome (reads_of z.work) (writes_of z.work)) same ends) in
             accepts p _ (commits (ap (phase_of p then.work) (subst (λ (z : Coordinator). z.work.phase ≡ tables.Open) same is) ∙ as-open p then.work)
             (subst (λ (k : ℕ). k < 2 ^ 64) moved small) (room-then s))
             ∙ ap (λ (k : ℕ). Ok (record { answer = answered k 0 (first_outcome (reads_of then.work) (writes_of then.work)); after = own_left p w (Commit c) in' words d (first_phase p (reads_of then.work) (writes_of then.work)) (suc k) (reads_of then.work) (writes_of then.work) })) (sym moved)

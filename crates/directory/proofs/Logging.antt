@@ -4,10 +4,9 @@ use Rattle.std.proofs.lemmas.List.{map_push, take-append-le, drop-append-le, dro
 use Rattle.std.proofs.lemmas.Bool.{ltb-true, lt-ltb, and_from, and_parts}
 use Rattle.memory.specs.Words.{at, Proper}
 use Rattle.ring.specs.declared.Ring.{Ring}
-use Rattle.ring.specs.Contents.{contents, room, with_one_more}
+use Rattle.ring.specs.Contents.{empty_ring, contents, room, with_one_more}
 use Rattle.ring.specs.Contents as ring
 use Rattle.ring.specs.Rings.{block}
-use Rattle.ring.proofs.Rings.{no_ring}
 use Rattle.protocol.specs.declared.plan.Plan.{Plan}
 use Rattle.protocol.specs.declared.record.Kind.{Kind}
 use Rattle.protocol.specs.declared.record.Record.{Record}
@@ -79,7 +78,7 @@ module _ (p : Plan) (w : World) (c m : ℕ) (in' : Inside p w c) (below : m < p.
 
   -- the entry read again, with another default
   pub room-again : (e : Coordinator) → room here_ring p.capacity ≡ true → room (log_ring p w c m in' below e) p.capacity ≡ true
-  room-again e free = subst (λ (z : Coordinator). room (get_or z.logs m no_ring) p.capacity ≡ true) (same-entry p w c in' d e) free
+  room-again e free = subst (λ (z : Coordinator). room (get_or z.logs m empty_ring) p.capacity ≡ true) (same-entry p w c in' d e) free
 
 -- The slots as the code lends them: a block b of the table.
 module _ (p : Plan) (w : World) (c m : ℕ) (in' : Inside p w c) (below : m < p.machines) (b : ℕ) (is : b ≡ c * p.machines + m) where
@@ -176,7 +175,7 @@ module _ (p : Plan) (w : World) (call : Call) (in' : Inside p w (coordinator_of 
         let l = log-left s n (noted s) in
         cc)
         (λ s.
-        rings-after p w c m in' below d s (with_entry t) r (queue_ring p w c m in' below d) refl (sym (set-get_or co.queues m no_ring))
+        rings-after p w c m in' below d s (with_entry t) r (queue_ring p w c m in' below d) refl (sym (set-get_or co.queues m empty_ring))
         (subst (λ (q : Ring). ring.Sound q p.capacity) (sym appended.ring) (one-more-stands was p.capacity (log-stands p w c m in' below d s) free))
         (queue-stands p w c m in' below d s))
         (record {

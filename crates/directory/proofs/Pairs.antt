@@ -6,10 +6,10 @@ use Rattle.std.proofs.lemmas.List.{length-set}
 use Rattle.std.proofs.lemmas.Slice.{drop-put_mid}
 use Rattle.std.proofs.lemmas.Bool.{ltb-true}
 use Rattle.ring.specs.declared.Ring.{Ring}
-use Rattle.ring.specs.Contents.{contents}
+use Rattle.ring.specs.Contents.{empty_ring, contents}
 use Rattle.ring.specs.Contents as ring
 use Rattle.ring.specs.Rings.{block, row}
-use Rattle.ring.proofs.Rings.{no_ring, block-end, length-block, row-ring, row_write, row_apart}
+use Rattle.ring.proofs.Rings.{block-end, length-block, row-ring, row_write, row_apart}
 use Rattle.protocol.specs.declared.plan.Plan.{Plan}
 use Rattle.protocol.specs.declared.record.Record.{Record}
 use Rattle.protocol.specs.declared.record.Reply.{Reply}
@@ -30,7 +30,7 @@ module _ {X Y : Type 0} (f : Ring → List X → Y) (y : Y) (k w c : ℕ) (table
   abbrev rows : List X → List Ring → ℕ → Y
   rows t rs = entries y (row f k w c t rs)
 
-  at-ring : rows table rings m ≡ f (get_or rings m no_ring) (block k (c * w + m) table)
+  at-ring : rows table rings m ≡ f (get_or rings m empty_ring) (block k (c * w + m) table)
   at-ring = row-entry f k w c table rings y m below (omega arith)
 
   new-ring : (r : Ring) → ◌≡◌ {A = ℕ → Y} (rows table (set rings m r)) (upd (rows table rings) m (f r (block k (c * w + m) table)))
@@ -121,19 +121,19 @@ module _ (p : Plan) (w : World) (c m : ℕ) (in' : Inside p w c) (below : m < p.
     co = get_or w.coordinators c d
 
     abbrev pub log_ring : Ring
-    log_ring = get_or co.logs m no_ring
+    log_ring = get_or co.logs m empty_ring
 
     abbrev pub queue_ring : Ring
-    queue_ring = get_or co.queues m no_ring
+    queue_ring = get_or co.queues m empty_ring
 
     rings : Sound p w → Rings p co
     rings s = first-at p w.coordinators w.records c under fit.coordinators (Rings p) d s.rings
 
     pub log-stands : Sound p w → ring.Sound log_ring p.capacity
-    log-stands s = All-get_or (λ r. ring.Sound r p.capacity) co.logs m no_ring (omega (arith, below-five, (rings s).five_logs)) (rings s).logs
+    log-stands s = All-get_or (λ r. ring.Sound r p.capacity) co.logs m empty_ring (omega (arith, below-five, (rings s).five_logs)) (rings s).logs
 
     pub queue-stands : Sound p w → ring.Sound queue_ring 4
-    queue-stands s = All-get_or (λ r. ring.Sound r 4) co.queues m no_ring (omega (arith, below-five, (rings s).five_queues)) (rings s).queues
+    queue-stands s = All-get_or (λ r. ring.Sound r 4) co.queues m empty_ring (omega (arith, below-five, (rings s).five_queues)) (rings s).queues
 
     pub log-here : Sound p w → logs_of p w.records c co.logs m ≡ log_of log_ring slots
     log-here s = at-ring log_of empty_log p.capacity p.machines c w.records co.logs m below (omega (arith, few.machines.1, (rings s).five_logs))

@@ -53,22 +53,7 @@ module _ (r : Ring) (slots : List Record) (k : Kind) (stands : Sound r (length s
       let at : ℕ → List Note → Log = λ i ns. record { polled = reverse (take i ns); waiting = drop i ns } in
       ap (λ i. at i (notes r' slots)) zero-cursor ∙ ap (at 0) left ∙ ap (passed_log (polled r slots) (note x) rest) (sym t)
 
--- the queue
-not-replied : (q : List Reply) (n : ℕ) (granted : Bool) (k : Kind) → (k ≡ Lock → ⊥) → q ≡ replied q n granted k
-not-replied q n granted Lock f = absurd (f refl)
-not-replied q n granted CommitBackup f = refl
-not-replied q n granted CommitPrimary f = refl
-not-replied q n granted Abort f = refl
-not-replied q n granted Truncate f = refl
-
-module _ (q : Ring) (ys : List Reply) (n : ℕ) (granted : Bool) (k : Kind) where
-  abbrev Replies : Ring → List Reply → Type 0
-  Replies q' ys' = Sound q (length ys) → q.len < length ys → contents q' ys' ≡ replied (contents q ys) n granted k
-
-  pub unreplied : (k ≡ Lock → ⊥) → Replies q ys
-  unreplied f s l = not-replied (contents q ys) n granted k f
-
-  pub appended : (q' : Ring) (ys' : List Reply) (did : Bool) → did ≡ room q (length ys) → k ≡ Lock
-      → (did ≡ true → contents q' ys' ≡ contents q ys ++ reply n granted ∷ []) → Replies q' ys'
-  appended q' ys' did answers e holds s l =
-      holds (answers ∙ and_from _ _ (lt-ltb _ _ s.head) (lt-ltb _ _ l)) ∙ ap (replied (contents q ys) n granted) (sym e)
+-- the queue takes a reply
+pub appended : (q : Ring) (ys : List Reply) (n : ℕ) (granted : Bool) (q' : Ring) (ys' : List Reply) (did : Bool) → did ≡ room q (length ys)
+    → (did ≡ true → contents q' ys' ≡ contents q ys ++ reply n granted ∷ []) → Sound q (length ys) → q.len < length ys → contents q' ys' ≡ replied (contents q ys) n (Some granted)
+appended q ys n granted q' ys' did answers holds s l = holds (answers ∙ and_from _ _ (lt-ltb _ _ s.head) (lt-ltb _ _ l))

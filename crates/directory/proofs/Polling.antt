@@ -1,14 +1,13 @@
 -- What poll does on each way out.
-use Rattle.std.proofs.Common.{◌≡◌, ℕ, suc, ◌+◌, ◌*◌, ◌<◌, ◌≤◌, Bool, true, false, cond, List, [], ◌∷◌, reverse, length, get_or, drop, set, Some, Ok, Err, sym, refl, ap, ◌∙◌, subst, arith}
+use Rattle.std.proofs.Common.{◌≡◌, ℕ, suc, ◌+◌, ◌*◌, ◌<◌, ◌≤◌, Bool, true, false, cond, List, [], ◌∷◌, reverse, length, get_or, drop, set, Some, Ok, Err, Option, sym, refl, ap, ◌∙◌, subst, arith}
 use borrow.Rule.Slice.PartMut.{put_mid}
-use Rattle.std.specs.List.{AllByRecursion}
+use Rattle.std.specs.List.{AllByRecursion, list_all}
 use Rattle.std.proofs.ByRecursion.{All-append}
 use Rattle.std.proofs.lemmas.List.{drop-set-lt}
 use Rattle.std.proofs.lemmas.Bool.{ltb-true}
 use Rattle.ring.specs.declared.Ring.{Ring}
-use Rattle.ring.specs.Contents.{contents}
+use Rattle.ring.specs.Contents.{empty_ring, contents}
 use Rattle.ring.specs.Contents as ring
-use Rattle.ring.proofs.Rings.{no_ring}
 use Rattle.ring.proofs.Rotated.{length-contents}
 use Rattle.memory.specs.Words.{at, Proper}
 use Rattle.protocol.specs.declared.plan.Plan.{Plan}
@@ -19,7 +18,7 @@ use Rattle.protocol.specs.declared.record.Reply.{Reply}
 use Rattle.protocol.specs.declared.call.Call.TheVariants.{Poll}
 use Rattle.protocol.specs.declared.call.Outcome.TheVariants.{Going}
 use Rattle.protocol.specs.declared.call.Refusal.TheVariants.{NoMachine, Nothing}
-use Rattle.protocol.specs.Lists.{upd, all_by}
+use Rattle.protocol.specs.Lists.{upd}
 use Rattle.protocol.specs.Try.{Try}
 use Rattle.protocol.specs.Lines.{Words, is_current, lock_lines}
 use Rattle.protocol.specs.Record.{Note, note, Log, records, number_of}
@@ -49,20 +48,20 @@ use Rattle.directory.proofs.Rooms.{log-records}
 use Rattle.directory.proofs.Pairs as pairs
 
 -- the coordinator after its record was polled at machine m
-abbrev pub passed_own : protocol.Coordinator → ℕ → Note → List Note → Bool → Kind → protocol.Coordinator
-passed_own k m r rest granted kind = record {
+abbrev pub passed_own : protocol.Coordinator → ℕ → Note → List Note → Option Bool → Kind → protocol.Coordinator
+passed_own k m r rest told kind = record {
   phase = k.phase;
   next = k.next;
   reads = k.reads;
   writes = k.writes;
   logs = upd k.logs m (passed_log (k.logs m).polled r rest kind);
-  queues = upd k.queues m (replied (k.queues m) r.number granted kind);
+  queues = upd k.queues m (replied (k.queues m) r.number told);
 }
 
 abbrev leaves_effect : Local → ℕ → Note → List Note → Kind → Effect → Accepted
 leaves_effect x m r rest kind e = record {
   answer = answered (number_of kind) e.count Going;
-  after = local (passed_own x.own m r rest e.granted kind) e.primaries e.firsts e.seconds;
+  after = local (passed_own x.own m r rest e.reply kind) e.primaries e.firsts e.seconds;
 }
 
 -- a poll is its record's effect on the memories, and its passing on the pair
@@ -80,8 +79,8 @@ module _ (p : Plan) (x : Local) (c m : ℕ) (r : Note) (rest : List Note) where
   unreplied : (kind : Kind) → ◌≡◌ {A = Try Accepted} (Ok (with_queues kind (does kind) x.own.queues)) (Ok (with_queues kind (does kind) (upd x.own.queues m (x.own.queues m))))
   unreplied kind = ap (λ (q : ℕ → List Reply). Ok (with_queues kind (does kind) q)) (sym (upd-own x.own.queues m))
 
-  poll_lock-does : Next p x m Lock r rest → (b : Bool) → all_by (is_current x.primaries) r.lines ≡ b
-      → local_call p x (Poll c m) ≡ Ok (leaves_effect x m r rest Lock (cond b (effect (length r.lines) true (lock_lines x.primaries (suc c) r.lines) x.firsts x.seconds) (effect 0 false x.primaries x.firsts x.seconds)))
+  poll_lock-does : Next p x m Lock r rest → (b : Bool) → list_all (is_current x.primaries) r.lines ≡ b
+      → local_call p x (Poll c m) ≡ Ok (leaves_effect x m r rest Lock (cond b (effect (length r.lines) (Some true) (lock_lines x.primaries (suc c) r.lines) x.firsts x.seconds) (effect 0 (Some false) x.primaries x.firsts x.seconds)))
   poll_lock-does n true q = accepts p x (locks r rest n q)
   poll_lock-does n false q = accepts p x (denies r rest n q)
 
@@ -173,14 +172,14 @@ module _ (p : Plan) (w : World) (c m : ℕ) (in' : Inside p w c) where
           let len = length-contents (queue_at d) places (queue-stands d s).head (queue-stands d s).len in
           omega (arith, one, len, ap length (queue-is d s), pairs.long-places p w c m in' below)
 
-      -- the record counts n, grants t and leaves the memories a, b and z; the log's ring is then r, and the queue's q over ys
-      module _ (n : ℕ) (t : Bool) (a b z : Words)
+      -- the record counts n, replies t and leaves the memories a, b and z; the log's ring is then r, and the queue's q over ys
+      module _ (n : ℕ) (t : Option Bool) (a b z : Words)
           (does-so : Ready p (log_at d) slots w.primaries w.firsts w.seconds → Lines p (note x).lines → c < 15 → effect n t a b z ≡ handled p c m w.primaries w.firsts w.seconds (polled (log_at d) slots) (note x) x.kind)
           (r q : Ring) (ys : List Reply) (long : length ys ≡ 4)
           (r-stands : ring.Sound (log_at d) (length slots) → ring.Sound r (length slots))
           (passes : ring.Sound (log_at d) (length slots) → (y : Record) → NextIs (notes (log_at d) slots) (log_at d).cursor (Some y) → log_of r slots ≡ passed_log (polled (log_at d) slots) (note y) rest x.kind)
           (q-stands : ring.Sound (queue_at d) (length places) → ring.Sound q (length places))
-          (replies : ring.Sound (queue_at d) (length places) → (queue_at d).len < length places → contents q ys ≡ replied (contents (queue_at d) places) x.number t x.kind) where
+          (replies : ring.Sound (queue_at d) (length places) → (queue_at d).len < length places → contents q ys ≡ replied (contents (queue_at d) places) x.number t) where
         abbrev co' : Coordinator
         co' = record { work = co.work; logs = set co.logs m r; queues = set co.queues m q }
 
@@ -201,7 +200,7 @@ module _ (p : Plan) (w : World) (c m : ℕ) (in' : Inside p w c) where
             ∙ ap (upd (logs_of p w.records c co.logs) m) (passes (log-stands d s) x (next (log-stands d s)) ∙ ap (λ (ns : List Note). passed_log ns (note x) rest x.kind) (sym (polled-is s))) in
             let queues : ◌≡◌ {A = ℕ → List Reply} (queues_of p replies' c (set co.queues m q)) (passed_own k m (note x) rest t x.kind).queues =
             pairs.queue-written p w c m in' below d s q ys long
-            ∙ ap (upd (queues_of p w.replies c co.queues) m) (replies (queue-stands d s) (queue-short s) ∙ ap (λ (l : List Reply). replied l x.number t x.kind) (sym (queue-is d s))) in
+            ∙ ap (upd (queues_of p w.replies c co.queues) m) (replies (queue-stands d s) (queue-short s) ∙ ap (λ (l : List Reply). replied l x.number t) (sym (queue-is d s))) in
             cc
 
         own-apart : (j : ℕ) (y : Coordinator) → (j ≡ c → ⊥) → own p w.records replies' j y ≡ own p w.records w.replies j y
@@ -222,17 +221,17 @@ module _ (p : Plan) (w : World) (c m : ℕ) (in' : Inside p w c) where
     module _ (words : (a : ℕ) → Proper (at w.primaries a)) (d : Coordinator) where
       abbrev Polls : Coordinator → Coordinator → List Record → List Reply → ℕ → Type 0
       Polls e o part answers j =
-          (x : Record) → (ring.Sound (get_or e.logs m no_ring) (length part) → NextIs (notes (get_or e.logs m no_ring) part) (get_or e.logs m no_ring).cursor (Some x))
-          → (n : ℕ) (t : Bool) (a b z : Words)
-          → (Ready p (get_or e.logs m no_ring) part w.primaries w.firsts w.seconds → Lines p (note x).lines → c < 15
-          → effect n t a b z ≡ handled p c m w.primaries w.firsts w.seconds (polled (get_or e.logs m no_ring) part) (note x) x.kind)
+          (x : Record) → (ring.Sound (get_or e.logs m empty_ring) (length part) → NextIs (notes (get_or e.logs m empty_ring) part) (get_or e.logs m empty_ring).cursor (Some x))
+          → (n : ℕ) (t : Option Bool) (a b z : Words)
+          → (Ready p (get_or e.logs m empty_ring) part w.primaries w.firsts w.seconds → Lines p (note x).lines → c < 15
+          → effect n t a b z ≡ handled p c m w.primaries w.firsts w.seconds (polled (get_or e.logs m empty_ring) part) (note x) x.kind)
           → (r q : Ring) (ys : List Reply) → length ys ≡ length answers
-          → (ring.Sound (get_or o.logs m no_ring) (length part) → ring.Sound r (length part))
-          → (ring.Sound (get_or o.logs m no_ring) (length part) → (y : Record) → NextIs (notes (get_or o.logs m no_ring) part) (get_or o.logs m no_ring).cursor (Some y)
-          → log_of r part ≡ passed_log (polled (get_or o.logs m no_ring) part) (note y) (drop ((get_or o.logs m no_ring).cursor + 1) (notes (get_or o.logs m no_ring) part)) x.kind)
-          → (ring.Sound (get_or o.queues m no_ring) (length answers) → ring.Sound q (length answers))
-          → (ring.Sound (get_or o.queues m no_ring) (length answers) → (get_or o.queues m no_ring).len < length answers
-          → contents q ys ≡ replied (contents (get_or o.queues m no_ring) answers) x.number t x.kind)
+          → (ring.Sound (get_or o.logs m empty_ring) (length part) → ring.Sound r (length part))
+          → (ring.Sound (get_or o.logs m empty_ring) (length part) → (y : Record) → NextIs (notes (get_or o.logs m empty_ring) part) (get_or o.logs m empty_ring).cursor (Some y)
+          → log_of r part ≡ passed_log (polled (get_or o.logs m empty_ring) part) (note y) (drop ((get_or o.logs m empty_ring).cursor + 1) (notes (get_or o.logs m empty_ring) part)) x.kind)
+          → (ring.Sound (get_or o.queues m empty_ring) (length answers) → ring.Sound q (length answers))
+          → (ring.Sound (get_or o.queues m empty_ring) (length answers) → (get_or o.queues m empty_ring).len < length answers
+          → contents q ys ≡ replied (contents (get_or o.queues m empty_ring) answers) x.number t)
           → (first : ℕ) → first ≡ number_of x.kind
           → Does p w (world (set w.coordinators c (record { work = o.work; logs = set o.logs m r; queues = set o.queues m q })) w.records (put_mid ((c * p.machines + m) * 4) j w.replies ys) a b z)
           (Ok (answered first n Going)) (Poll c m)
@@ -253,7 +252,7 @@ module _ (p : Plan) (w : World) (c m : ℕ) (in' : Inside p w c) where
           (subst (λ (z : ℕ). Polls (get_or w.coordinators c d) (get_or w.coordinators c d) slots places z) (sym four) whole)))
 
     pub nothing-polled : (e : Coordinator) (part : List Record) → part ≡ slots
-        → (ring.Sound (get_or (get_or w.coordinators c e).logs m no_ring) (length part) → drop (get_or (get_or w.coordinators c e).logs m no_ring).cursor (notes (get_or (get_or w.coordinators c e).logs m no_ring) part) ≡ [])
+        → (ring.Sound (get_or (get_or w.coordinators c e).logs m empty_ring) (length part) → drop (get_or (get_or w.coordinators c e).logs m empty_ring).cursor (notes (get_or (get_or w.coordinators c e).logs m empty_ring) part) ≡ [])
         → Does p w w (Err Nothing) (Poll c m)
     nothing-polled e part same =
         subst

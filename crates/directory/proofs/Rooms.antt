@@ -1,5 +1,6 @@
 -- Room in a coordinator's logs, by its rings.
 use Rattle.std.proofs.Common.{◌≡◌, ℕ, ◌+◌, ◌*◌, ◌<◌, ◌≤◌, Bool, leb, List, ◌++◌, length, get_or, take, drop, sym, ap, ◌∙◌, subst, arith}
+use Rattle.std.specs.List.{list_all}
 use Rattle.std.proofs.ByRecursion.{All-get_or}
 use Rattle.std.proofs.lemmas.List.{take-append-drop, reverse-reverse}
 use Rattle.ring.specs.declared.Ring.{Ring}
@@ -9,7 +10,6 @@ use Rattle.ring.proofs.Rings.{block-end, length-block}
 use Rattle.protocol.specs.declared.plan.Plan.{Plan}
 use Rattle.protocol.specs.declared.record.Record.{Record}
 use Rattle.protocol.specs.declared.record.Reply.{Reply}
-use Rattle.protocol.specs.Lists.{all_by}
 use Rattle.protocol.specs.Plan.{machine_list}
 use Rattle.protocol.specs.Record.{Note, empty_log, records}
 use Rattle.protocol.specs.Coordinator as protocol
@@ -23,7 +23,7 @@ use Rattle.handling.specs.Sending.{wanted}
 use Rattle.directory.specs.declared.tables.Coordinator.{Coordinator}
 use Rattle.directory.specs.View.{own, log_of, reads_of, writes_of}
 use Rattle.directory.specs.Sound.{Rings}
-use Rattle.directory.specs.Fresh.{empty_ring}
+use Rattle.ring.specs.Contents.{empty_ring}
 use Rattle.directory.specs.Commits.{notes_at, roomy_at}
 use Rattle.directory.proofs.Rows.{row-entry}
 
@@ -73,5 +73,5 @@ module _ (p : Plan) (c : ℕ) (co : Coordinator) (rs : List Record) (few : p.mac
         ap (λ (k : ℕ). leb (length (records (log mine m)) + with_trim k (records (log mine m))) p.capacity) (begun-todo p m b (reads_of co.work) (writes_of co.work))
         ∙ ap (λ (ns : List Note). leb (length ns + with_trim (wanted p (writes_of co.work) m) ns) p.capacity) (all-records m b s)
 
-    pub room-is : Rings p co → is_roomy p (begin p mine) ≡ all_by (roomy_at p c co rs) (machine_list p)
+    pub room-is : Rings p co → is_roomy p (begin p mine) ≡ list_all (roomy_at p c co rs) (machine_list p)
     room-is s = all_same _ _ 0 p.machines (λ m l. same-room m (omega arith) s)

@@ -4,7 +4,7 @@ use Rattle.std.proofs.lemmas.List.{get_or-take, length-take}
 use Rattle.ring.specs.declared.Ring.{Ring}
 use Rattle.ring.specs.Rings.{mapi, row, block}
 use Rattle.ring.proofs.Indexed.{length-mapi}
-use Rattle.ring.proofs.Rings.{no_ring}
+use Rattle.ring.specs.Contents.{empty_ring}
 
 getD-mapi : {X Y : Type 0} (f : ℕ → X → Y) (i : ℕ) (xs : List X) (k : ℕ) (d : X) (e : Y) → k < length xs → get_or (mapi f i xs) k e ≡ f (i + k) (get_or xs k d)
 getD-mapi f i [] k d e l = absurd (omega arith)
@@ -19,9 +19,9 @@ mapi-at f n xs k d e a b =
     ∙ ap (f k) (get_or-take n xs k d a)
 
 module _ {X Y : Type 0} (f : Ring → List X → Y) (k w c : ℕ) (table : List X) (rings : List Ring) (e : Y) where
-  pub row-entry : (m : ℕ) → m < w → m < length rings → get_or (row f k w c table rings) m e ≡ f (get_or rings m no_ring) (block k (c * w + m) table)
+  pub row-entry : (m : ℕ) → m < w → m < length rings → get_or (row f k w c table rings) m e ≡ f (get_or rings m empty_ring) (block k (c * w + m) table)
   unfolding row
-  row-entry m a b = mapi-at (λ j r. f r (block k (c * w + j) table)) w rings m no_ring e a b
+  row-entry m a b = mapi-at (λ j r. f r (block k (c * w + j) table)) w rings m empty_ring e a b
 
   pub row-length : w ≤ length rings → length (row f k w c table rings) ≡ w
   unfolding row

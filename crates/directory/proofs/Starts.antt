@@ -18,10 +18,11 @@ use Rattle.protocol.specs.Kept.{Invariant}
 use Rattle.protocol.proofs.Functions.{pointwise}
 use Rattle.protocol.proofs.Keeps.{new-invariant}
 use Rattle.directory.specs.declared.tables.Coordinator.{Coordinator}
-use Rattle.directory.specs.View.{world, phase_of, next_of, log_of, logs_of, queues_of, own, owns, reads_of, writes_of}
+use Rattle.directory.specs.View.{world, phase_of, next_of, log_of, logs_of, queues_of, own, owns}
 use Rattle.directory.specs.Sound.{Rings}
 use Rattle.directory.specs.Calls.{Ready}
-use Rattle.directory.specs.Fresh.{Fresh, empty_ring}
+use Rattle.ring.specs.Contents.{empty_ring}
+use Rattle.directory.specs.Fresh.{Fresh}
 use Rattle.directory.proofs.Plans.{Sizes}
 use Rattle.directory.proofs.Each.{entries, all_replicate, mapi-replicate}
 
@@ -60,8 +61,8 @@ module _ (p : Plan) (co : Coordinator) (few : Sizes p) (is : Fresh p.first co) w
   fresh-own rs qs c =
       let ph = fresh-phase in
       let n : next_of co.work.next ≡ p.first = ap next_of is.next in
-      let r : reads_of co.work ≡ [] = ap (λ n. take n co.work.reads) is.nreads in
-      let w : writes_of co.work ≡ [] = ap (λ n. take n co.work.writes) is.nwrites in
+      let r = is.reads in
+      let w = is.writes in
       let l : ◌≡◌ {A = ℕ → Log} (logs_of p rs c co.logs) (λ m. empty_log) =
       all-blank empty_log p.machines _ (ap (row log_of p.capacity p.machines c rs) is.logs ∙ empty-row log_of empty_log p.capacity p.machines c rs few.machines.1 empty_log-of) in
       let q : ◌≡◌ {A = ℕ → List Reply} (queues_of p qs c co.queues) (λ m. []) =

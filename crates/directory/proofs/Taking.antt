@@ -1,61 +1,61 @@
 -- What take does on each way out.
-use Rattle.std.proofs.Common.{◌≡◌, ℕ, ◌+◌, ◌-◌, ◌*◌, ◌<◌, ◌≤◌, Bool, true, false, cond, List, [], ◌∷◌, length, get_or, take, drop, set, Some, None, Ok, Err, Option, sym, refl, ap, ◌∙◌, subst, arith}
+use Rattle.std.proofs.Common.{◌≡◌, ℕ, ◌+◌, ◌-◌, ◌*◌, ◌<◌, ◌≤◌, Bool, true, false, cond, not, ◌||◌, List, [], ◌∷◌, length, get_or, take, drop, set, Some, None, Ok, Err, Option, sym, refl, ap, ◌∙◌, subst, arith}
 use mir.Val.{bool_byte}
 use Rattle.std.specs.List.{slice_get}
 use Rattle.std.proofs.lemmas.List.{drop-set-lt, set-get_or}
 use Rattle.std.proofs.lemmas.Bool.{lt-ltb, le-leb, and_from, ltb-true, cond-true}
 use Rattle.memory.specs.Words.{at, Proper}
 use Rattle.ring.specs.declared.Ring.{Ring}
-use Rattle.ring.specs.Contents.{contents, holds_n, without_front}
+use Rattle.ring.specs.Contents.{empty_ring, contents, holds_n, without_front}
 use Rattle.ring.specs.Contents as ring
 use Rattle.ring.specs.Rings.{block}
-use Rattle.ring.proofs.Rings.{no_ring}
 use Rattle.ring.proofs.Rotated.{slot-below, contents-drop}
 use Rattle.protocol.specs.declared.plan.Plan.{Plan}
 use Rattle.protocol.specs.declared.record.Reply.{Reply}
 use Rattle.protocol.specs.declared.call.Call.TheVariants.{Take}
 use Rattle.protocol.specs.declared.call.Outcome.{Outcome}
 use Rattle.protocol.specs.declared.call.Refusal.TheVariants.{NoMachine, WrongPhase, Nothing}
-use Rattle.protocol.specs.Lists.{upd}
+use Rattle.protocol.specs.Lists.{upd, without}
 use Rattle.protocol.specs.Coordinator as protocol
 use Rattle.protocol.specs.Room.{is_at_primary, one_if}
 use Rattle.protocol.specs.State.{Local, in_phase}
 use Rattle.protocol.specs.Call.{Accepted, answered}
-use Rattle.protocol.specs.Commit.{take_in, take_reply}
+use Rattle.protocol.specs.Commit.{take_in, take_reply, taken}
 use Rattle.protocol.specs.Step.{local_call}
 use Rattle.protocol.proofs.Checks.{passes}
 use Rattle.protocol.proofs.Moves.{takes}
 use Rattle.protocol.proofs.Refusals as refusals
 use Rattle.protocol.proofs.Refusals.{is_locking}
+use Rattle.directory.specs.declared.tables.Locking.{Locking}
 use Rattle.directory.specs.declared.tables.Phase.{Phase}
 use Rattle.directory.specs.declared.tables.Phase.TheVariants as tables
 use Rattle.directory.specs.declared.tables.Work.{Work}
 use Rattle.directory.specs.declared.tables.Coordinator.{Coordinator}
 use Rattle.directory.specs.View.{World, world, own, phase_of, next_of, due_from, awaited_of, writes_of, queues_of}
-use Rattle.directory.specs.Progress.{AfterReply}
+use Rattle.directory.specs.Progress.{Came, AfterReply}
 use Rattle.directory.specs.Sound.{Sound}
 use Rattle.directory.specs.Calls.{Does}
-use Rattle.directory.proofs.Plans.{fits-of}
+use Rattle.directory.proofs.Plans.{fits-of, sizes-of}
 use Rattle.directory.proofs.Doing.{Inside, here, refuses, changes}
 use Rattle.directory.proofs.Pairs as pairs
 use Rattle.directory.proofs.Pairs.{place, places}
-use Rattle.directory.proofs.Progressing.{as_number}
+use Rattle.directory.proofs.Progressing.{as_number, still}
 use Rattle.directory.proofs.Working.{proper, same-entry}
 
-not-locking : (p : Plan) (t : Work) (ph : Phase) → (ph ≡ tables.Locking → ⊥) → is_locking (phase_of p t ph) ≡ false
+not-locking : (p : Plan) (t : Work) (ph : Phase) → ((l : Locking) → ph ≡ tables.Locking l → ⊥) → is_locking (phase_of p t ph) ≡ false
 unfolding phase_of
 not-locking p t tables.Idle n = refl
 not-locking p t tables.Open n = refl
-not-locking p t tables.Locking n = absurd (n refl)
-not-locking p t tables.Checking n = refl
-not-locking p t tables.Backing n = refl
-not-locking p t tables.Installing n = refl
-not-locking p t tables.Aborting n = refl
+not-locking p t (tables.Locking l) n = absurd (n l refl)
+not-locking p t (tables.Checking i) n = refl
+not-locking p t (tables.Backing d) n = refl
+not-locking p t (tables.Installing d r) n = refl
+not-locking p t (tables.Aborting d) n = refl
 
-as-locking : (p : Plan) (t : Work) → t.phase ≡ tables.Locking
-    → phase_of p t t.phase ≡ protocol.Locking (due_from p t.due (is_at_primary p (writes_of t))) (awaited_of p t) t.denied
+as-locking : (p : Plan) (t : Work) (l : Locking) → t.phase ≡ tables.Locking l
+    → phase_of p t t.phase ≡ protocol.Locking (due_from p l.due (is_at_primary p (writes_of t))) (awaited_of p l) l.denied
 unfolding phase_of
-as-locking p t is = ap (phase_of p t) is
+as-locking p t l is = ap (phase_of p t) is
 
 -- some coordinator of the table
 some-entry : (cs : List Coordinator) → 0 < length cs → Coordinator
@@ -78,7 +78,7 @@ take_beyond p w c m in' l =
 
 module _ (p : Plan) (w : World) (c m : ℕ) (in' : Inside p w c) (below : m < p.machines) where
   abbrev queue_of : Coordinator → Ring
-  queue_of co = get_or co.queues m no_ring
+  queue_of co = get_or co.queues m empty_ring
 
   -- the slots of the queue, as the code cuts them out
   abbrev part : List Reply
@@ -92,6 +92,9 @@ module _ (p : Plan) (w : World) (c m : ℕ) (in' : Inside p w c) (below : m < p.
 
   long : length part ≡ 4
   long = ap length slots ∙ pairs.long-places p w c m in' below
+
+  few_machines : p.machines ≤ 5
+  few_machines = (sizes-of p in'.fine).machines.1
 
   module _ (d : Coordinator) (s : Sound p w) where
     stands : ring.Sound (queue_of (get_or w.coordinators c d)) (length part)
@@ -114,15 +117,15 @@ module _ (p : Plan) (w : World) (c m : ℕ) (in' : Inside p w c) (below : m < p.
     abbrev first : Coordinator
     first = get_or w.coordinators c e
 
-    pub take-closed : (first.work.phase ≡ tables.Locking → ⊥) → Does p w w (Err WrongPhase) (Take c m)
+    pub take-closed : ((l : Locking) → first.work.phase ≡ tables.Locking l → ⊥) → Does p w w (Err WrongPhase) (Take c m)
     unfolding own
     take-closed n = refuses p w (Take c m) in' e WrongPhase (λ s. refusals.take-closed p _ c m below (not-locking p first.work _ n))
 
-    module _ (is : first.work.phase ≡ tables.Locking) where
+    module _ (l : Locking) (is : first.work.phase ≡ tables.Locking l) where
       pub take-nothing : Looked first None → Does p w w (Err Nothing) (Take c m)
       unfolding own
       take-nothing none = refuses p w (Take c m) in' e Nothing
-          (λ s. refusals.take-nothing p _ c m below _ _ _ (as-locking p first.work is) (queue-is e s ∙ no_front _ (none (stands e s))))
+          (λ s. refusals.take-nothing p _ c m below _ _ _ (as-locking p first.work l is) (queue-is e s ∙ no_front _ (none (stands e s))))
 
       -- and as it is changed, with default d: the reply r is taken, and the ring of its queue is then `new`
       module _ (words : (a : ℕ) → Proper (at w.primaries a)) (d : Coordinator) where
@@ -164,7 +167,7 @@ module _ (p : Plan) (w : World) (c m : ℕ) (in' : Inside p w c) (below : m < p.
               ∙ ap (upd (queues_of p w.replies c then.queues) m) (ap (contents new) (sym slots) ∙ ap (λ (z : Ring). contents z part) new_is ∙ contents-drop old part 1 full.0 full.1 (omega (arith, full.2)))
 
           -- the transaction is then t
-          module _ (t : Work) (o : Outcome) (left : AfterReply p then.work m r.yes t o) (b : ℕ) (byte : b ≡ bool_byte r.yes) where
+          module _ (l' : Locking) (came : Came l m r.yes l') (t : Work) (o : Outcome) (left : AfterReply p then.work l' t o) (b : ℕ) (byte : b ≡ bool_byte r.yes) where
             abbrev changed : Coordinator
             changed = record { work = t; logs = then.logs; queues = set then.queues m new }
 
@@ -177,11 +180,16 @@ module _ (p : Plan) (w : World) (c m : ℕ) (in' : Inside p w c) (below : m < p.
             accepted : Sound p w → local_call p x (Take c m) ≡ Ok acc
             unfolding own local_call take_in take_reply
             accepted s =
-                let is-then : then.work.phase ≡ tables.Locking = subst (λ (z : Coordinator). z.work.phase ≡ tables.Locking) same is in
+                let is-then : then.work.phase ≡ tables.Locking l = subst (λ (z : Coordinator). z.work.phase ≡ tables.Locking l) same is in
+                let test = is_at_primary p (writes_of then.work) in
                 passes NoMachine _ _ (lt-ltb _ _ below)
-                ∙ ap (take_in p x m) (as-locking p then.work is-then)
-                ∙ ap (take_reply p x m (due_from p then.work.due (is_at_primary p (writes_of then.work))) (awaited_of p then.work) then.work.denied) (front-is s)
-                ∙ left.goes_on is-then (takes x m rest) (one_if r.yes) refl refl
+                ∙ ap (take_in p x m) (as-locking p then.work l is-then)
+                ∙ ap (take_reply p x m (due_from p l.due test) (awaited_of p l) l.denied) (front-is s)
+                ∙ ap (λ (n : ℕ). taken p (takes x m rest) (due_from p n test) (without m (awaited_of p l)) (l.denied || not r.yes) (one_if r.yes)) (sym came.due)
+                ∙ ap (λ (ms : List ℕ). taken p (takes x m rest) (due_from p l'.due test) ms (l.denied || not r.yes) (one_if r.yes))
+                (sym (still p l m r.yes (omega (arith, below, few_machines)) l' came))
+                ∙ ap (λ (no : Bool). taken p (takes x m rest) (due_from p l'.due test) (awaited_of p l') no (one_if r.yes)) (sym came.denied)
+                ∙ left.goes_on (takes x m rest) (one_if r.yes) refl refl
                 ∙ ap (λ (k : ℕ). Ok (record { answer = answered k 0 o; after = acc.after })) (sym (byte ∙ as_number r.yes))
 
             own-after : Sound p w → own p w.records w.replies c changed ≡ acc.after.own
@@ -197,6 +205,6 @@ module _ (p : Plan) (w : World) (c m : ℕ) (in' : Inside p w c) (below : m < p.
             takes-reply =
                 changes p w (Take c m) in' (proper p w (Take c m) in' words d) d changed w.records w.replies (λ j y _. refl) acc accepted own-after
                 (λ s.
-                pairs.rings-after p w c m in' below d s changed (pairs.log_ring p w c m in' below d) new (sym (set-get_or then.logs m no_ring)) refl
+                pairs.rings-after p w c m in' below d s changed (pairs.log_ring p w c m in' below d) new (sym (set-get_or then.logs m empty_ring)) refl
                 (pairs.log-stands p w c m in' below d s) (new-stands s))
                 (record { coordinators = drop-set-lt _ _ _ _ (ltb-true c p.coordinators (sym in'.below)); records = refl; replies = refl })

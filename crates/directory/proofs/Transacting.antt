@@ -1,5 +1,6 @@
 -- What open, read, write and abandon do on each way out.
 use Rattle.std.proofs.Common.{◌≡◌, ℕ, ◌-◌, ◌^◌, ◌<◌, ◌≤◌, Bool, true, false, cond, List, [], length, get_or, set, Some, None, Ok, Err, Option, sym, ap, ◌∙◌, subst, arith}
+use Rattle.std.specs.List.{push}
 use Rattle.std.proofs.lemmas.Bool.{lt-ltb}
 use Rattle.memory.specs.Words.{at, there, look_at, Proper}
 use Rattle.protocol.specs.declared.plan.Plan.{Plan}
@@ -7,7 +8,6 @@ use Rattle.protocol.specs.declared.record.Line.{Line}
 use Rattle.protocol.specs.declared.call.Call.TheVariants.{Open, Read, Write, Abandon}
 use Rattle.protocol.specs.declared.call.Refusal.TheVariants.{WrongPhase, NoAddress, TooMany, NotRead, UsedUp}
 use Rattle.protocol.specs.declared.call.Outcome.TheVariants.{Going, Aborted}
-use Rattle.protocol.specs.Lists.{snoc}
 use Rattle.protocol.specs.Plan.{size}
 use Rattle.protocol.specs.Lines.{Words, line}
 use Rattle.protocol.specs.Coordinator as protocol
@@ -24,7 +24,7 @@ use Rattle.directory.specs.Work.{Leaves}
 use Rattle.directory.specs.Calls.{Does}
 use Rattle.directory.proofs.Plans.{fits-of}
 use Rattle.directory.proofs.Doing.{Inside, here, refuses, only-answers}
-use Rattle.directory.proofs.Working.{is-idle, not-idle, is_open, not-open, as-idle, as-open, count-reads, count-writes, with_work, own_left, work-changes, same-entry, leaves-stand}
+use Rattle.directory.proofs.Working.{is-idle, not-idle, is_open, not-open, as-idle, as-open, with_work, own_left, work-changes, same-entry, leaves-stand}
 
 -- what a look found
 look-some : (ws : Words) (a v h x : ℕ) → Some (v, h, x) ≡ look_at ws a → line a v x ≡ seen ws a
@@ -88,10 +88,10 @@ module _ (p : Plan) (w : World) (c : ℕ) (in' : Inside p w c) (e : Coordinator)
         pub read-unlooked : None ≡ look_at w.primaries a → Does p w w (Err NoAddress) (Read c a)
         read-unlooked q = absurd (look_none w.primaries a q (omega (arith, within, (fits-of p w in'.fits).primaries)))
 
-        pub read-full : 8 ≤ first.work.nreads → Does p w w (Err TooMany) (Read c a)
+        pub read-full : 8 ≤ length (reads_of first.work) → Does p w w (Err TooMany) (Read c a)
         unfolding own
         read-full l = refuses p w (Read c a) in' e TooMany
-            (λ s. protocol-calls.read-full p _ c a (is_open p first.work _ is) within (sym new) (omega (arith, l, count-reads first.work)))
+            (λ s. protocol-calls.read-full p _ c a (is_open p first.work _ is) within (sym new) l)
 
       module _ (v : ℕ) where
         pub write-unread : None ≡ line_at a (reads_of first.work) → Does p w w (Err NotRead) (Write c a v)
@@ -103,10 +103,10 @@ module _ (p : Plan) (w : World) (c : ℕ) (in' : Inside p w c) (e : Coordinator)
           unfolding own
           write-used-up q = refuses p w (Write c a v) in' e UsedUp (λ s. protocol-calls.write-used-up p _ c a v (is_open p first.work _ is) within r (sym found) q)
 
-          pub write-full : (r.version ≡ 2 ^ 60 - 1 → ⊥) → None ≡ line_at a (writes_of first.work) → 4 ≤ first.work.nwrites → Does p w w (Err TooMany) (Write c a v)
+          pub write-full : (r.version ≡ 2 ^ 60 - 1 → ⊥) → None ≡ line_at a (writes_of first.work) → 4 ≤ length (writes_of first.work) → Does p w w (Err TooMany) (Write c a v)
           unfolding own
           write-full n new l = refuses p w (Write c a v) in' e TooMany
-              (λ s. protocol-calls.write-full p _ c a v (is_open p first.work _ is) within r (sym found) n (sym new) (omega (arith, l, count-writes first.work)))
+              (λ s. protocol-calls.write-full p _ c a v (is_open p first.work _ is) within r (sym found) n (sym new) l)
 
   module _ (words : (a : ℕ) → Proper (at w.primaries a)) (d : Coordinator) (t : Work) where
     abbrev then : Coordinator
@@ -141,18 +141,18 @@ module _ (p : Plan) (w : World) (c : ℕ) (in' : Inside p w c) (e : Coordinator)
       writes_then : (o : Option Line) → o ≡ line_at a (writes_of first.work) → line_at a (writes_of then.work) ≡ o
       writes_then o q = sym (subst (λ (z : Coordinator). o ≡ line_at a (writes_of z.work)) same q)
 
-      pub reads-new : None ≡ line_at a (reads_of first.work) → first.work.nreads < 8 → (v h x : ℕ) → Some (v, h, x) ≡ look_at w.primaries a
-          → Leaves t then.work.phase then.work.next (snoc (reads_of then.work) (line a v x)) (writes_of then.work)
+      pub reads-new : None ≡ line_at a (reads_of first.work) → length (reads_of first.work) < 8 → (v h x : ℕ) → Some (v, h, x) ≡ look_at w.primaries a
+          → Leaves t then.work.phase then.work.next (push (reads_of then.work) (line a v x)) (writes_of then.work)
           → Does p w after (Ok (answered v x Going)) (Read c a)
       unfolding own
       reads-new new few v h x looked l =
           work-changes p w (Read c a) in' words d t protocol.Opened _ _ _ v x Going (λ s. leaves-stand p t _ _ _ _ _ l stays_open)
           (λ s.
-          let few' : then.work.nreads < 8 = subst (λ (z : Coordinator). z.work.nreads < 8) same few in
-          protocol-calls.reads-new p _ c a (is_open p then.work _ is-then) within (reads_then None new) (omega (arith, few', count-reads then.work))
-          ∙ ap (λ (r : Line). Ok (record { answer = answered r.version r.value Going; after = own_left p w (Read c a) in' words d (phase_of p then.work then.work.phase) (next_of then.work.next) (snoc (reads_of then.work) r) (writes_of then.work) }))
+          let few' : length (reads_of then.work) < 8 = subst (λ (z : Coordinator). length (reads_of z.work) < 8) same few in
+          protocol-calls.reads-new p _ c a (is_open p then.work _ is-then) within (reads_then None new) few'
+          ∙ ap (λ (r : Line). Ok (record { answer = answered r.version r.value Going; after = own_left p w (Read c a) in' words d (phase_of p then.work then.work.phase) (next_of then.work.next) (push (reads_of then.work) r) (writes_of then.work) }))
           (sym (look-some w.primaries a v h x looked))
-          ∙ ap (λ (ph : protocol.Phase). Ok (record { answer = answered v x Going; after = own_left p w (Read c a) in' words d ph (next_of then.work.next) (snoc (reads_of then.work) (line a v x)) (writes_of then.work) }))
+          ∙ ap (λ (ph : protocol.Phase). Ok (record { answer = answered v x Going; after = own_left p w (Read c a) in' words d ph (next_of then.work.next) (push (reads_of then.work) (line a v x)) (writes_of then.work) }))
           (ap (phase_of p then.work) is-then ∙ as-open p then.work))
 
       module _ (v : ℕ) (r : Line) (found : Some r ≡ line_at a (reads_of first.work)) (next : r.version ≡ 2 ^ 60 - 1 → ⊥) where
@@ -174,11 +174,11 @@ module _ (p : Plan) (w : World) (c : ℕ) (in' : Inside p w c) (e : Coordinator)
             writes-left _ l
             (protocol-calls.writes_again p _ c a v (is_open p then.work _ is-then) within r (reads_then (Some r) found) next o (writes_then (Some o) old))
 
-        pub writes-new : None ≡ line_at a (writes_of first.work) → first.work.nwrites < 4
-            → Leaves t then.work.phase then.work.next (reads_of then.work) (snoc (writes_of then.work) (line r.address r.version v))
+        pub writes-new : None ≡ line_at a (writes_of first.work) → length (writes_of first.work) < 4
+            → Leaves t then.work.phase then.work.next (reads_of then.work) (push (writes_of then.work) (line r.address r.version v))
             → Does p w after (Ok (answered 0 0 Going)) (Write c a v)
         unfolding own
         writes-new new few l =
-            let few' : then.work.nwrites < 4 = subst (λ (z : Coordinator). z.work.nwrites < 4) same few in
+            let few' : length (writes_of then.work) < 4 = subst (λ (z : Coordinator). length (writes_of z.work) < 4) same few in
             writes-left _ l
-            (protocol-calls.writes-new p _ c a v (is_open p then.work _ is-then) within r (reads_then (Some r) found) next (writes_then None new) (omega (arith, few', count-writes then.work)))
+            (protocol-calls.writes-new p _ c a v (is_open p then.work _ is-then) within r (reads_then (Some r) found) next (writes_then None new) few')

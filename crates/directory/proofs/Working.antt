@@ -1,12 +1,15 @@
 -- A coordinator's transaction in the view, and a call that changes it and nothing else.
-use Rattle.std.proofs.Common.{◌≡◌, ℕ, true, false, List, length, get_or, set, Ok, Option, sym, refl, ap, ◌∙◌, arith}
-use Rattle.std.proofs.lemmas.List.{drop-set-lt, length-take, get_or_default}
+use Rattle.std.proofs.Common.{◌≡◌, ℕ, Bool, true, false, List, get_or, set, Ok, Option, sym, refl, ap, ◌∙◌, arith}
+use Rattle.std.specs.List.{filter}
+use Rattle.std.proofs.lemmas.List.{drop-set-lt, get_or_default}
 use Rattle.std.proofs.lemmas.Bool.{ltb-true}
 use Rattle.memory.specs.Words.{at, Proper}
 use Rattle.protocol.specs.declared.plan.Plan.{Plan}
 use Rattle.protocol.specs.declared.record.Line.{Line}
 use Rattle.protocol.specs.declared.call.Call.{Call}
 use Rattle.protocol.specs.declared.call.Outcome.{Outcome}
+use Rattle.protocol.specs.Lists.{counting}
+use Rattle.protocol.specs.Plan.{machine_list}
 use Rattle.protocol.specs.Coordinator as protocol
 use Rattle.protocol.specs.Coordinator.{is_idle, is_opened}
 use Rattle.protocol.specs.State.{Local, local}
@@ -17,7 +20,8 @@ use Rattle.directory.specs.declared.tables.Phase.{Phase}
 use Rattle.directory.specs.declared.tables.Phase.TheVariants as tables
 use Rattle.directory.specs.declared.tables.Work.{Work}
 use Rattle.directory.specs.declared.tables.Coordinator.{Coordinator}
-use Rattle.directory.specs.View.{World, world, own, phase_of, next_of, reads_of, writes_of}
+use Rattle.directory.specs.View.{World, world, own, phase_of, next_of, due_from}
+use Rattle.directory.specs.Progress.{Keeps}
 use Rattle.directory.specs.Work.{Leaves, StandsFor}
 use Rattle.directory.specs.Sound.{Sound}
 use Rattle.directory.specs.Calls.{Does}
@@ -32,11 +36,11 @@ pub not-idle : (p : Plan) (t : Work) (ph : Phase) → (ph ≡ tables.Idle → �
 unfolding phase_of
 not-idle p t tables.Idle n = absurd (n refl)
 not-idle p t tables.Open n = refl
-not-idle p t tables.Locking n = refl
-not-idle p t tables.Checking n = refl
-not-idle p t tables.Backing n = refl
-not-idle p t tables.Installing n = refl
-not-idle p t tables.Aborting n = refl
+not-idle p t (tables.Locking l) n = refl
+not-idle p t (tables.Checking i) n = refl
+not-idle p t (tables.Backing d) n = refl
+not-idle p t (tables.Installing d r) n = refl
+not-idle p t (tables.Aborting d) n = refl
 
 pub is_open : (p : Plan) (t : Work) (ph : Phase) → ph ≡ tables.Open → is_opened (phase_of p t ph) ≡ true
 unfolding phase_of
@@ -46,11 +50,11 @@ pub not-open : (p : Plan) (t : Work) (ph : Phase) → (ph ≡ tables.Open → �
 unfolding phase_of
 not-open p t tables.Idle n = refl
 not-open p t tables.Open n = absurd (n refl)
-not-open p t tables.Locking n = refl
-not-open p t tables.Checking n = refl
-not-open p t tables.Backing n = refl
-not-open p t tables.Installing n = refl
-not-open p t tables.Aborting n = refl
+not-open p t (tables.Locking l) n = refl
+not-open p t (tables.Checking i) n = refl
+not-open p t (tables.Backing d) n = refl
+not-open p t (tables.Installing d r) n = refl
+not-open p t (tables.Aborting d) n = refl
 
 -- the table's coordinator with another transaction
 abbrev pub with_work : Coordinator → Work → Coordinator
@@ -93,12 +97,27 @@ module _ (p : Plan) (w : World) (call : Call) (in' : Inside p w (coordinator_of 
       record { five_logs = r.five_logs; five_queues = r.five_queues; logs = r.logs; queues = r.queues })
       (record { coordinators = drop-set-lt _ _ _ _ (ltb-true c p.coordinators (sym in'.below)); records = refl; replies = refl })
 
--- how many lines count
-pub count-reads : (t : Work) → length (reads_of t) ≡ t.nreads
-count-reads t = simp length-take (omega (arith, t.few, t.eight))
+-- the transaction in another phase
+abbrev pub moved : Work → Phase → Work
+moved t ph = record { phase = ph; next = t.next; reads = t.reads; writes = t.writes }
 
-pub count-writes : (t : Work) → length (writes_of t) ≡ t.nwrites
-count-writes t = simp length-take (omega (arith, t.fewer, t.four))
+-- what a phase stands for depends on nothing but the words of the transaction
+pub same-phase : (p : Plan) (t : Work) (q : Phase) (n : Option ℕ) (ph : Phase) → phase_of p (record { phase = q; next = n; reads = t.reads; writes = t.writes }) ph ≡ phase_of p t ph
+unfolding phase_of
+same-phase p t q n tables.Idle = refl
+same-phase p t q n tables.Open = refl
+same-phase p t q n (tables.Locking l) = refl
+same-phase p t q n (tables.Checking i) = refl
+same-phase p t q n (tables.Backing d) = refl
+same-phase p t q n (tables.Installing d r) = refl
+same-phase p t q n (tables.Aborting d) = refl
+
+pub keeps-moved : (t : Work) (ph : Phase) → Keeps t (moved t ph)
+keeps-moved t ph = record { next = refl; reads = refl; writes = refl }
+
+-- from the first machine on
+pub all-due : (p : Plan) (test : ℕ → Bool) → due_from p 0 test ≡ filter test (machine_list p)
+all-due p test = ap (λ (n : ℕ). filter test (counting 0 n)) (omega arith)
 
 pub as-open : (p : Plan) (t : Work) → phase_of p t tables.Open ≡ protocol.Opened
 unfolding phase_of

@@ -1,9 +1,9 @@
 -- What a poll leaves of the pair's log and queue, by the kind of the record.
-use Rattle.std.specs.Prelude.{ℕ, Bool, List, [], ◌∷◌}
+use Rattle.std.specs.Prelude.{ℕ, Bool, List, [], ◌∷◌, Some, None, Option}
+use Rattle.std.specs.List.{push}
 use Rattle.protocol.specs.declared.record.Kind.{Kind}
 use Rattle.protocol.specs.declared.record.Kind.TheVariants.{Lock, CommitBackup, CommitPrimary, Abort, Truncate}
 use Rattle.protocol.specs.declared.record.Reply.{Reply}
-use Rattle.protocol.specs.Lists.{snoc}
 use Rattle.protocol.specs.Record.{Note, Log}
 use Rattle.protocol.specs.Poll.{reply}
 
@@ -15,10 +15,7 @@ passed_log polled r rest CommitPrimary = record { polled = r ∷ polled; waiting
 passed_log polled r rest Abort = record { polled = r ∷ polled; waiting = rest }
 passed_log polled r rest Truncate = record { polled = []; waiting = rest }
 
--- a LOCK is replied to
-abbrev pub replied : List Reply → ℕ → Bool → Kind → List Reply
-replied q n granted Lock = snoc q (reply n granted)
-replied q n granted CommitBackup = q
-replied q n granted CommitPrimary = q
-replied q n granted Abort = q
-replied q n granted Truncate = q
+-- the reply to a LOCK, if it was one, stands last
+abbrev pub replied : List Reply → ℕ → Option Bool → List Reply
+replied q n None = q
+replied q n (Some granted) = push q (reply n granted)

@@ -1,5 +1,6 @@
 -- The lent tables and memories, and the protocol's state that they stand for.
 use Rattle.std.specs.Prelude.{ℕ, ◌-◌, ◌*◌, ◌^◌, Bool, false, ◌&&◌, List, [], reverse, length, take, drop, Some, None, Option, ◌==◌, nat_le, slice_index_or}
+use Rattle.std.specs.List.{filter}
 use Rattle.ring.specs.declared.Ring.{Ring}
 use Rattle.ring.specs.Contents.{contents}
 use Rattle.ring.specs.Rings.{mapi, row}
@@ -7,8 +8,9 @@ use Rattle.protocol.specs.declared.plan.Plan.{Plan}
 use Rattle.protocol.specs.declared.record.Line.{Line}
 use Rattle.protocol.specs.declared.record.Record.{Record}
 use Rattle.protocol.specs.declared.record.Reply.{Reply}
-use Rattle.protocol.specs.Lists.{filter, counting}
+use Rattle.protocol.specs.Lists.{counting}
 use Rattle.protocol.specs.Lines.{Words}
+use Rattle.protocol.specs.LineVec.{listed}
 use Rattle.protocol.specs.Record.{Log, empty_log}
 use Rattle.protocol.specs.Plan.{size, machine_list}
 use Rattle.protocol.specs.Room.{is_at_primary, is_at_backup}
@@ -16,6 +18,7 @@ use Rattle.protocol.specs.Commit.{read_only}
 use Rattle.protocol.specs.Coordinator as protocol
 use Rattle.protocol.specs.State.{State, state}
 use Rattle.handling.specs.Notes.{notes}
+use Rattle.directory.specs.declared.tables.Locking as tables
 use Rattle.directory.specs.declared.tables.Phase.{Phase}
 use Rattle.directory.specs.declared.tables.Phase.TheVariants.{Idle, Open, Locking, Checking, Backing, Installing, Aborting}
 use Rattle.directory.specs.declared.tables.Work.{Work}
@@ -35,28 +38,28 @@ world cs rs qs a b d = record { coordinators = cs; records = rs; replies = qs; p
 
 -- the lines that count
 abbrev pub reads_of : Work → List Line
-reads_of t = take t.nreads t.reads
+reads_of t = listed t.reads
 
 abbrev pub writes_of : Work → List Line
-writes_of t = take t.nwrites t.writes
+writes_of t = listed t.writes
 
 -- the machines from d on that pass: those still due a record
 abbrev pub due_from : Plan → ℕ → (ℕ → Bool) → List ℕ
 due_from p d test = filter test (counting d (p.machines - d))
 
 -- the machines whose reply is awaited
-abbrev pub awaited_of : Plan → Work → List ℕ
-awaited_of p t = filter (λ m. slice_index_or t.awaited m false) (machine_list p)
+abbrev pub awaited_of : Plan → tables.Locking → List ℕ
+awaited_of p l = filter (λ m. slice_index_or l.awaited m false) (machine_list p)
 
--- a phase with the data that it has in that phase; what the other fields hold does not matter
+-- a phase of a transaction, as the protocol has it
 unfoldable pub phase_of : Plan → Work → Phase → protocol.Phase
 phase_of p t Idle = protocol.Idle
 phase_of p t Open = protocol.Opened
-phase_of p t Locking = protocol.Locking (due_from p t.due (is_at_primary p (writes_of t))) (awaited_of p t) t.denied
-phase_of p t Checking = protocol.Checking (read_only (drop t.passed (reads_of t)) (writes_of t))
-phase_of p t Backing = protocol.Backing (due_from p t.due (is_at_backup p (writes_of t)))
-phase_of p t Installing = protocol.Installing t.reported (due_from p t.due (is_at_primary p (writes_of t)))
-phase_of p t Aborting = protocol.Aborting (due_from p t.due (is_at_primary p (writes_of t)))
+phase_of p t (Locking l) = protocol.Locking (due_from p l.due (is_at_primary p (writes_of t))) (awaited_of p l) l.denied
+phase_of p t (Checking passed) = protocol.Checking (read_only (drop passed (reads_of t)) (writes_of t))
+phase_of p t (Backing due) = protocol.Backing (due_from p due (is_at_backup p (writes_of t)))
+phase_of p t (Installing due reported) = protocol.Installing reported (due_from p due (is_at_primary p (writes_of t)))
+phase_of p t (Aborting due) = protocol.Aborting (due_from p due (is_at_primary p (writes_of t)))
 
 -- the number after the last is 2^64
 abbrev pub next_of : Option ℕ → ℕ

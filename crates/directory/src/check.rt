@@ -17,9 +17,7 @@ use protocol::record::{Line, Record, Reply};
 fn is_current<M: Memory>(memory: &M, line: Line) -> Option<bool>
     ensures { result ≡ (if there (M.words memory.now) line.address then Some (is_current (M.words memory.now) line) else None) }
 {
-    let Some((version, holder, _)) = memory.look(line.address as usize) else {
-        return None;
-    };
+    let (version, holder, _) = memory.look(line.address as usize)?;
     Some(holder == 0 && version == line.version)
 }
 
@@ -50,10 +48,10 @@ pub fn check<P: Memory, F: Memory, S: Memory>(
         c,
     )?;
     let own = &coordinators[c as usize];
-    let Phase::Checking = own.work.phase else {
+    let Phase::Checking { passed } = own.work.phase else {
         return Err(Refusal::WrongPhase);
     };
-    let Some((count, line)) = own.work.next_unwritten() else {
+    let Some((count, line)) = own.work.next_unwritten(passed) else {
         return Err(Refusal::WrongPhase);
     };
     let Some(current) = is_current(primaries, line) else {

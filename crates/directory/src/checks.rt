@@ -1,6 +1,6 @@
 // The checks that every call makes first.
 ghost use Rattle.std.specs.Prelude.{◌≡◌, ◌<◌, length, OnOk};
-ghost use Rattle.protocol.specs.Lists.{all_by};
+ghost use Rattle.std.specs.List.{list_all};
 ghost use Rattle.protocol.specs.Plan.{is_fine, has_fine_sizes, is_fine_home};
 ghost use Rattle.directory.specs.View.{world, is_fitting};
 ghost use Rattle.directory.specs.Checks.{admitted};
@@ -24,27 +24,18 @@ fn home_ok(home: &Home, machines: u8) -> bool
 }
 
 fn homes_ok(homes: &[Home], machines: u8) -> bool
-    ensures { result ≡ all_by (is_fine_home machines) homes.now }
+    ensures { result ≡ list_all (is_fine_home machines) homes.now }
 {
-    for home in homes {
-        if !home_ok(home, machines) {
-            return false;
-        }
-    }
-    true
+    homes.iter().all(|home| home_ok(home, machines))
 }
 
 fn sizes_ok(plan: &Plan) -> bool
     ensures { result ≡ has_fine_sizes plan.now }
 {
-    3 <= plan.machines
-        && plan.machines <= 5
-        && 1 <= plan.coordinators
-        && plan.coordinators <= 4
-        && 1 <= plan.regions
-        && plan.regions <= 8
-        && 4 <= plan.capacity
-        && plan.capacity <= 16
+    (3..=5).contains(&plan.machines)
+        && (1..=4).contains(&plan.coordinators)
+        && (1..=8).contains(&plan.regions)
+        && (4..=16).contains(&plan.capacity)
         && plan.start < 1 << 60
 }
 

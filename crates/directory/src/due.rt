@@ -1,11 +1,9 @@
 // What a coordinator sends next, and how its transaction goes on from there.
-ghost use Rattle.std.specs.Prelude.{◌≡◌, pred, ◌+◌, ◌<◌, false, Some};
+ghost use Rattle.std.specs.Prelude.{◌≡◌, pred, ◌<◌};
 ghost use Rattle.protocol.specs.Record.{note};
 ghost use Rattle.handling.specs.Sending.{due_from, first_machine, OfPlan, InEightRegions, record_of};
-ghost use Rattle.directory.specs.declared.tables.Phase.TheVariants.{Installing};
-ghost use Rattle.directory.specs.View.{next_of, reads_of, writes_of};
-ghost use Rattle.directory.specs.Work.{Leaves, StandsFor};
-ghost use Rattle.directory.specs.Due.{kind_due, reports, gone_on, Passed};
+ghost use Rattle.directory.specs.View.{next_of, writes_of};
+ghost use Rattle.directory.specs.Due.{due_in, reports, GoesOn, GoneOn};
 
 use crate::tables::{Phase, Work};
 use handling::records::{next_due, record_for};
@@ -14,26 +12,25 @@ use protocol::plan::Plan;
 use protocol::record::{Kind, Record};
 
 impl Work {
-    // The kind of the records that are sent in this phase.
-    pub(crate) fn kind_due(&self) -> Option<Kind>
-        ensures { result ≡ kind_due self.now.phase }
+    // The kind of the records that are sent in this phase, and the first machine that may still be due one.
+    pub(crate) fn due(&self) -> Option<(Kind, u8)>
+        ensures { result ≡ due_in self.now.phase }
     {
         match self.phase {
-            Phase::Locking => Some(Kind::Lock),
-            Phase::Backing => Some(Kind::CommitBackup),
-            Phase::Installing => Some(Kind::CommitPrimary),
-            Phase::Aborting => Some(Kind::Abort),
-            Phase::Idle | Phase::Open | Phase::Checking => None,
+            Phase::Locking(locking) => Some((Kind::Lock, locking.due)),
+            Phase::Backing { due } => Some((Kind::CommitBackup, due)),
+            Phase::Installing { due, .. } => Some((Kind::CommitPrimary, due)),
+            Phase::Aborting { due } => Some((Kind::Abort, due)),
+            Phase::Idle | Phase::Open | Phase::Checking { .. } => None,
         }
     }
 
-    // The lowest machine that is still due a record of that kind.
-    pub(crate) fn machine_due(&self, plan: &Plan, kind: Kind) -> Option<u8>
-        ensures lowest { result ≡ first_machine (due_from plan.now kind (writes_of self.now) self.now.due) }
+    // The lowest machine from `from` on that a record of that kind is due to.
+    pub(crate) fn machine_due(&self, plan: &Plan, kind: Kind, from: u8) -> Option<u8>
+        ensures lowest { result ≡ first_machine (due_from plan.now kind (writes_of self.now) from) }
         ensures within { OfPlan plan.now result }
     {
-        let count = self.nwrites as usize;
-        next_due(plan, kind, self.due, &self.writes[0..count])
+        next_due(plan, kind, from, self.writes.as_slice())
     }
 
     // The last number given: all are where there is no next one.
@@ -50,58 +47,62 @@ impl Work {
     pub(crate) fn record_due(&self, plan: &Plan, c: u8, kind: Kind, m: u8) -> Record
         ensures { InEightRegions (writes_of self.now) → note result ≡ record_of plan.now c (pred (next_of self.now.next)) kind m (writes_of self.now) }
     {
-        let count = self.nwrites as usize;
-        record_for(plan, c, self.last_given(), kind, m, &self.writes[0..count])
+        record_for(plan, c, self.last_given(), kind, m, self.writes.as_slice())
     }
 
-    // What a record of that kind reports.
-    fn outcome(&self, kind: Kind) -> Outcome
-        ensures { result ≡ reports self.now kind }
+    // What the next record reports: the first COMMIT-PRIMARY the commit, any other nothing.
+    fn outcome(&self) -> Outcome
+        ensures { result ≡ reports self.now.phase }
     {
-        match kind {
-            Kind::CommitPrimary if !self.reported => Outcome::Committed,
+        match self.phase {
+            Phase::Installing {
+                reported: false,
+                ..
+            } => Outcome::Committed,
             _ => Outcome::Going,
         }
     }
 
-    // Every backup has its record: the primaries are due theirs, and the commit is not yet reported.
-    fn install(&mut self)
-        ensures leaves { Leaves self.new Installing self.old.next (reads_of self.old) (writes_of self.old) }
-        ensures due { self.new.due ≡ 0 }
-        ensures reported { self.new.reported ≡ false }
+    // The phase with records due to the machines from `due` on, or after the last the phase that follows.
+    fn phase_from(&self, plan: &Plan, due: u8) -> Phase
+        ensures { GoesOn plan.now self.now due result }
     {
-        self.phase = Phase::Installing;
-        self.due = 0;
-        self.reported = false;
-    }
-
-    // Machine m has its record. In installing that reports the commit; in the other phases `reported` does not count.
-    fn pass_machine(&mut self, m: u8)
-        requires { m < 5 }
-        ensures { Passed self.old self.new m }
-    {
-        self.due = m + 1;
-        self.reported = true;
-    }
-
-    // Machine m has its record of that kind: on to the next that is due one, or after the last to the next phase.
-    // Answers what this reports.
-    pub(crate) fn go_on(&mut self, plan: &Plan, kind: Kind, m: u8) -> Outcome
-        requires due { Some kind ≡ kind_due self.old.phase }
-        requires below { m < 5 }
-        ensures reports { result ≡ reports self.old kind }
-        ensures stands { StandsFor plan.now self.new (gone_on plan.now self.old kind (due_from plan.now kind (writes_of self.old) (m + 1))) (next_of self.old.next) (reads_of self.old) (writes_of self.old) }
-    {
-        let outcome = self.outcome(kind);
-        self.pass_machine(m);
-        let None = self.machine_due(plan, kind) else {
-            return outcome;
-        };
-        match kind {
-            Kind::CommitBackup => self.install(),
-            Kind::CommitPrimary | Kind::Abort => self.rest(),
-            Kind::Lock | Kind::Truncate => {}
+        match self.phase {
+            Phase::Locking(locking) => {
+                let mut locking = locking;
+                locking.due = due;
+                Phase::Locking(locking)
+            }
+            Phase::Backing { .. } => match self.machine_due(plan, Kind::CommitBackup, due) {
+                Some(_) => Phase::Backing { due },
+                None => Phase::Installing {
+                    due: 0,
+                    reported: false,
+                },
+            },
+            Phase::Installing { .. } => match self.machine_due(plan, Kind::CommitPrimary, due) {
+                Some(_) => Phase::Installing {
+                    due,
+                    reported: true,
+                },
+                None => Phase::Idle,
+            },
+            Phase::Aborting { .. } => match self.machine_due(plan, Kind::Abort, due) {
+                Some(_) => Phase::Aborting { due },
+                None => Phase::Idle,
+            },
+            phase => phase,
         }
+    }
+
+    // Machine m has its record: on to the next that is due one, or after the last to the next phase. Answers what this reports.
+    pub(crate) fn go_on(&mut self, plan: &Plan, m: u8) -> Outcome
+        requires { m < 5 }
+        ensures reports { result ≡ reports self.old.phase }
+        ensures stands { GoneOn plan.now self.old m self.new }
+    {
+        let outcome = self.outcome();
+        self.phase = self.phase_from(plan, m + 1);
         outcome
     }
 }

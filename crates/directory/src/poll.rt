@@ -12,24 +12,12 @@ ghost use Rattle.directory.specs.Calls.{Does};
 use crate::checks::admit;
 use crate::tables::Coordinator;
 use handling::handle::handle;
-use handling::logs::next_record;
+use handling::logs::Log;
 use memory::interface::Memory;
 use protocol::call::{Answer, Outcome, Refusal};
 use protocol::plan::Plan;
 use protocol::record::{Kind, Record, Reply};
 use ring::Ring;
-
-pub(crate) fn kind_number(kind: Kind) -> u64
-    ensures { result ≡ number_of kind }
-{
-    match kind {
-        Kind::Lock => 1,
-        Kind::CommitBackup => 2,
-        Kind::CommitPrimary => 3,
-        Kind::Abort => 4,
-        Kind::Truncate => 5,
-    }
-}
 
 // The log goes on past its next record: a TRUNCATE drops all before it and itself.
 fn pass_log(log: &mut Ring, slots: &[Record], kind: Kind)
@@ -48,22 +36,13 @@ fn pass_log(log: &mut Ring, slots: &[Record], kind: Kind)
     }
 }
 
-// A LOCK is replied to.
-fn answer_lock(queue: &mut Ring, slots: &mut [Reply], number: u64, granted: bool, kind: Kind)
+// What a LOCK is replied to goes into the queue.
+fn answer_lock(queue: &mut Ring, slots: &mut [Reply], number: u64, reply: Option<bool>)
     ensures stands { Sound queue.old (length slots.old) → Sound queue.new (length slots.old) }
-    ensures after { Sound queue.old (length slots.old) → queue.old.len < length slots.old → contents queue.new slots.new ≡ replied (contents queue.old slots.old) number granted kind }
+    ensures after { Sound queue.old (length slots.old) → queue.old.len < length slots.old → contents queue.new slots.new ≡ replied (contents queue.old slots.old) number reply }
 {
-    match kind {
-        Kind::Lock => {
-            let _ = queue.append(
-                slots,
-                Reply {
-                    number,
-                    yes: granted,
-                },
-            );
-        }
-        _ => {}
+    if let Some(yes) = reply {
+        queue.append(slots, Reply { number, yes });
     }
 }
 
@@ -101,22 +80,22 @@ pub fn poll<P: Memory, F: Memory, S: Memory>(
     let places = plan.capacity as usize;
     let slots = &records[block * places..block * places + places];
     let own = &coordinators[c as usize];
-    let log = own.logs[j];
-    let Some(found) = next_record(&log, slots) else {
+    let ring = own.logs[j];
+    let log = Log { ring: &ring, slots };
+    let Some(found) = log.next() else {
         return Err(Refusal::Nothing);
     };
-    let done = handle(plan, c, m, &log, slots, &found, primaries, firsts, seconds);
+    let done = handle(plan, c, m, &log, &found, primaries, firsts, seconds);
     let own = &mut coordinators[c as usize];
     pass_log(&mut own.logs[j], slots, found.kind);
     answer_lock(
         &mut own.queues[j],
         &mut replies[block * 4..block * 4 + 4],
         found.number,
-        done.granted,
-        found.kind,
+        done.reply,
     );
     Ok(Answer {
-        first: kind_number(found.kind),
+        first: found.kind.into(),
         second: done.count,
         outcome: Outcome::Going,
     })

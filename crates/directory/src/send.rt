@@ -4,7 +4,6 @@ ghost use Rattle.directory.specs.View.{world};
 ghost use Rattle.directory.specs.Calls.{Does};
 
 use crate::checks::admit;
-use crate::poll::kind_number;
 use crate::slots::{append_in, block_of};
 use crate::tables::Coordinator;
 use memory::interface::Memory;
@@ -38,10 +37,10 @@ pub fn send<P: Memory, F: Memory, S: Memory>(
         c,
     )?;
     let own = &coordinators[c as usize];
-    let Some(kind) = own.work.kind_due() else {
+    let Some((kind, from)) = own.work.due() else {
         return Err(Refusal::WrongPhase);
     };
-    let Some(m) = own.work.machine_due(plan, kind) else {
+    let Some(m) = own.work.machine_due(plan, kind, from) else {
         return Err(Refusal::Nothing);
     };
     let block = block_of(plan, c, m);
@@ -54,10 +53,10 @@ pub fn send<P: Memory, F: Memory, S: Memory>(
     let sent = own.work.record_due(plan, c, kind, m);
     let own = &mut coordinators[c as usize];
     append_in(&mut own.logs[m as usize], records, block, capacity, sent);
-    let outcome = own.work.go_on(plan, kind, m);
+    let outcome = own.work.go_on(plan, m);
     Ok(Answer {
         first: m as u64,
-        second: kind_number(kind),
+        second: kind.into(),
         outcome,
     })
 }

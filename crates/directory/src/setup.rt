@@ -9,49 +9,26 @@ use crate::checks::{plan_ok, tables_ok};
 use crate::tables::{Coordinator, Phase, Work};
 use memory::interface::Memory;
 use protocol::call::Refusal;
+use protocol::lines::LineVec;
 use protocol::plan::Plan;
-use protocol::record::{Line, Record, Reply};
+use protocol::record::{Record, Reply};
 use ring::Ring;
 
 // An idle coordinator with empty rings.
 pub fn fresh(first: u64) -> Coordinator
     ensures { Fresh first result }
 {
-    let line = Line {
-        address: 0,
-        version: 0,
-        value: 0,
-    };
-    let ring = Ring {
-        head: 0,
-        len: 0,
-        cursor: 0,
-    };
+    let ring = Ring::new();
     let work = Work {
         phase: Phase::Idle,
         next: Some(first),
-        due: 0,
-        awaited: [false; 5],
-        denied: false,
-        reported: false,
-        passed: 0,
-        nreads: 0,
-        reads: [line; 8],
-        nwrites: 0,
-        writes: [line; 4],
+        reads: LineVec::new(),
+        writes: LineVec::new(),
     };
     Coordinator {
         work,
         logs: [ring; 5],
         queues: [ring; 5],
-    }
-}
-
-fn fill(coordinators: &mut [Coordinator], value: Coordinator)
-    ensures { coordinators.new ≡ replicate (length coordinators.old) value }
-{
-    for own in coordinators.iter_mut() {
-        *own = value;
     }
 }
 
@@ -97,6 +74,6 @@ pub fn set_up<P: Memory, F: Memory, S: Memory>(
     reset(firsts, plan.start);
     reset(seconds, plan.start);
     let count = plan.coordinators as usize;
-    fill(&mut coordinators[0..count], fresh(plan.first));
+    coordinators[0..count].fill(fresh(plan.first));
     Ok(64 * plan.regions as u64)
 }

@@ -1,6 +1,6 @@
 // The slots of a coordinator's rings in the tables of records and replies.
-ghost use Rattle.std.specs.Prelude.{◌≡◌, ◌+◌, ◌*◌, ◌≤◌, true, [], ◌∷◌, ◌++◌, length};
-ghost use Rattle.ring.specs.Contents.{contents, room, with_one_more};
+ghost use Rattle.std.specs.Prelude.{◌≡◌, ◌+◌, ◌*◌, ◌≤◌, true, length};
+ghost use Rattle.ring.specs.Contents.{room};
 ghost use Rattle.directory.specs.Slots.{Appended};
 
 use protocol::plan::Plan;
@@ -11,15 +11,6 @@ pub(crate) fn block_of(plan: &Plan, c: u8, m: u8) -> usize
     ensures { result ≡ c * plan.now.machines + m }
 {
     c as usize * plan.machines as usize + m as usize
-}
-
-// Appends an entry to a ring with a free slot.
-fn push<T: Copy>(ring: &mut Ring, slots: &mut [T], entry: T)
-    requires { room ring.old (length slots.old) ≡ true }
-    ensures ring { ring.new ≡ with_one_more ring.old }
-    ensures holds { contents ring.new slots.new ≡ contents ring.old slots.old ++ entry ∷ [] }
-{
-    let _ = ring.append(slots, entry);
 }
 
 // Appends an entry to a ring with a free slot, whose slots are a block of the table.
@@ -34,5 +25,5 @@ pub(crate) fn append_in<T: Copy>(
     requires room { room ring.old size ≡ true }
     ensures { Appended size block ring.old ring.new table.old table.new entry }
 {
-    push(ring, &mut table[block * size..block * size + size], entry);
+    let _ = ring.append(&mut table[block * size..block * size + size], entry);
 }

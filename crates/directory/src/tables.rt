@@ -1,42 +1,38 @@
 // The entries of the table of coordinators.
-ghost use Rattle.std.specs.Prelude.{◌≡◌, ◌≤◌, length};
+ghost use Rattle.std.specs.Prelude.{◌≡◌, length};
 
-use protocol::record::Line;
+use protocol::lines::LineVec;
 use ring::Ring;
 
+// LOCKs are due to the machines from `due` on; a reply is awaited from each machine that is marked; `denied` once one was no.
+#[derive(Clone, Copy)]
+pub struct Locking {
+    pub due: u8,
+    pub awaited: [bool; 5],
+    pub denied: bool,
+    ghost five: { length awaited ≡ 5 },
+}
+
+// Where a transaction stands, with what counts there. Records are due to the machines from `due` on; the first `passed`
+// reads are checked or need no check; `reported` once the commit is.
 #[derive(Clone, Copy)]
 pub enum Phase {
     Idle,
     Open,
-    Locking,
-    Checking,
-    Backing,
-    Installing,
-    Aborting,
+    Locking(Locking),
+    Checking { passed: u8 },
+    Backing { due: u8 },
+    Installing { due: u8, reported: bool },
+    Aborting { due: u8 },
 }
 
-// A coordinator's transaction. `next` is the number that the next commit gives, nothing once the last is given;
-// records are due to the machines from `due` on; a reply is awaited from each machine that is marked; the first `passed` reads
-// are checked or need no check.
-// The first `nreads` and `nwrites` lines count.
+// A coordinator's transaction. `next` is the number that the next commit gives, nothing once the last is given.
 #[derive(Clone, Copy)]
 pub struct Work {
     pub phase: Phase,
     pub next: Option<u64>,
-    pub due: u8,
-    pub awaited: [bool; 5],
-    pub denied: bool,
-    pub reported: bool,
-    pub passed: u8,
-    pub nreads: u8,
-    pub reads: [Line; 8],
-    pub nwrites: u8,
-    pub writes: [Line; 4],
-    ghost few: { nreads ≤ 8 },
-    ghost fewer: { nwrites ≤ 4 },
-    ghost eight: { length reads ≡ 8 },
-    ghost four: { length writes ≡ 4 },
-    ghost five: { length awaited ≡ 5 },
+    pub reads: LineVec<8>,
+    pub writes: LineVec<4>,
 }
 
 // A log and a reply queue for each machine: the rings, whose slots stand in the tables of records and replies.

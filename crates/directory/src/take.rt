@@ -40,7 +40,7 @@ pub fn take<P: Memory, F: Memory, S: Memory>(
         return Err(Refusal::NoMachine);
     };
     let own = &coordinators[c as usize];
-    let Phase::Locking = own.work.phase else {
+    let Phase::Locking(locking) = own.work.phase else {
         return Err(Refusal::WrongPhase);
     };
     let block = c as usize * plan.machines as usize + m as usize;
@@ -52,7 +52,7 @@ pub fn take<P: Memory, F: Memory, S: Memory>(
     let own = &mut coordinators[c as usize];
     let queue = &mut own.queues[m as usize];
     queue.drop_front(slots, 1);
-    let outcome = own.work.note_reply(plan, m, reply.yes);
+    let outcome = own.work.note_reply(plan, locking.replied(m, reply.yes));
     Ok(Answer {
         first: u64::from(reply.yes),
         second: 0,

@@ -84,7 +84,7 @@ pub fn read<P: Memory, F: Memory, S: Memory>(
     let true = address < 64 * plan.regions as u16 else {
         return Err(Refusal::NoAddress);
     };
-    if let Some(line) = own.work.read_at(address) {
+    if let Some(line) = own.work.reads.find(address) {
         let value = own.work.value_of(line, address);
         return Ok(Answer {
             first: line.version,
@@ -92,7 +92,7 @@ pub fn read<P: Memory, F: Memory, S: Memory>(
             outcome: Outcome::Going,
         });
     }
-    let true = own.work.nreads < 8 else {
+    let true = own.work.reads.len() < 8 else {
         return Err(Refusal::TooMany);
     };
     let Some((version, _, value)) = primaries.look(address as usize) else {
@@ -145,13 +145,13 @@ pub fn write<P: Memory, F: Memory, S: Memory>(
     let true = address < 64 * plan.regions as u16 else {
         return Err(Refusal::NoAddress);
     };
-    let Some(line) = own.work.read_at(address) else {
+    let Some(line) = own.work.reads.find(address) else {
         return Err(Refusal::NotRead);
     };
     let true = line.version != LAST_VERSION else {
         return Err(Refusal::UsedUp);
     };
-    if let Some(_) = own.work.write_at(address) {
+    if let Some(_) = own.work.writes.find(address) {
         let own = &mut coordinators[c as usize];
         own.work.note_again(line.address, value);
         return Ok(Answer {
@@ -160,7 +160,7 @@ pub fn write<P: Memory, F: Memory, S: Memory>(
             outcome: Outcome::Going,
         });
     }
-    let true = own.work.nwrites < 4 else {
+    let true = own.work.writes.len() < 4 else {
         return Err(Refusal::TooMany);
     };
     let own = &mut coordinators[c as usize];

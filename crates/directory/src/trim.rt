@@ -6,7 +6,7 @@ ghost use Rattle.directory.specs.Calls.{Does};
 use crate::checks::admit;
 use crate::slots::{append_in, block_of};
 use crate::tables::{Coordinator, Phase};
-use handling::room::untrimmed;
+use handling::logs::Log;
 use memory::interface::Memory;
 use protocol::call::{Answer, Outcome, Refusal};
 use protocol::plan::Plan;
@@ -47,12 +47,13 @@ pub fn trim<P: Memory, F: Memory, S: Memory>(
     };
     let block = block_of(plan, c, m);
     let capacity = plan.capacity as usize;
-    let log = &own.logs[m as usize];
-    let true = untrimmed(log, &records[block * capacity..block * capacity + capacity]) else {
+    let ring = &own.logs[m as usize];
+    let slots = &records[block * capacity..block * capacity + capacity];
+    let true = (Log { ring, slots }).is_untrimmed() else {
         return Err(Refusal::Nothing);
     };
     // on sound tables there is room: a place is kept for the TRUNCATE of every log that has records without one
-    let true = log.has_room(capacity) else {
+    let true = ring.has_room(capacity) else {
         return Err(Refusal::NoRoom);
     };
     let number = own.work.last_given();

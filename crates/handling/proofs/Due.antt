@@ -1,6 +1,7 @@
 -- The machines from some number on that pass a test, and the lowest of them.
 use Rattle.std.proofs.Common.{◌≡◌, ℕ, zero, suc, ◌+◌, ◌-◌, ◌<◌, ◌≤◌, Bool, true, false, cond, List, [], ◌∷◌, Some, None, sym, refl, ap, ◌∙◌, arith}
-use Rattle.protocol.specs.Lists.{filter, counting}
+use Rattle.std.specs.List.{filter, find, range_with_len}
+use Rattle.protocol.specs.Lists.{counting}
 use Rattle.handling.specs.Sending.{first_machine}
 
 -- those of m to n - 1 that pass
@@ -23,6 +24,15 @@ module _ (f : ℕ → Bool) (n m : ℕ) where
 
   pub passing-none : n ≤ m → passing f n m ≡ []
   passing-none l = let size : n - m ≡ 0 = omega arith in ap (λ (k : ℕ). filter f (counting m k)) size
+
+-- the first that passes of k numbers from d on
+pub found-first : (f : ℕ → Bool) (d k : ℕ) → find f (range_with_len d k) ≡ first_machine (filter f (counting d k))
+found-first f d zero = refl
+found-first f d (suc k) = ap (λ (j : ℕ). cond (f d) (Some d) (find f (range_with_len j k))) (omega arith) ∙ ap (cond (f d) (Some d)) (found-first f (suc d) k) ∙ by_cases (f d)
+  where
+    by_cases : (b : Bool) → cond b (Some d) (first_machine (filter f (counting (suc d) k))) ≡ first_machine (cond b (d ∷ filter f (counting (suc d) k)) (filter f (counting (suc d) k)))
+    by_cases true = refl
+    by_cases false = refl
 
 -- from the first machine on
 pub passing-all : (f : ℕ → Bool) (n : ℕ) → passing f n 0 ≡ filter f (counting 0 n)

@@ -1,12 +1,11 @@
 -- The lines of a transaction's LOCK, installed one after the other and counted.
 use Rattle.std.proofs.Common.{◌≡◌, ℕ, ◌+◌, ◌<◌, ◌≤◌, Bool, true, false, cond, List, [], ◌∷◌, length, get_or, drop, sym, refl, ap, ◌∙◌, subst, arith}
 use mir.Val.{bool_byte}
-use Rattle.std.specs.List.{AllByRecursion}
+use Rattle.std.specs.List.{AllByRecursion, filter}
 use Rattle.std.proofs.ByRecursion.{All-weaker}
 use Rattle.std.proofs.lemmas.List.{length-set, drop_more, drop_all}
 use Rattle.std.proofs.lemmas.Bool.{and_from, lt-ltb}
 use Rattle.protocol.specs.declared.record.Line.{Line}
-use Rattle.protocol.specs.Lists.{filter}
 use Rattle.protocol.specs.Lines.{Words, put, install_lines}
 use Rattle.handling.specs.Fitting.{Fit, is_fit, fitting}
 

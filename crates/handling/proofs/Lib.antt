@@ -10,6 +10,7 @@ pub mod Installing
 pub mod Locked
 pub mod Locking
 pub mod Newest
+pub mod Finding
 pub mod Peeks
 pub mod Regions
 pub mod Sent

@@ -1,6 +1,6 @@
 -- The lines of a granted LOCK: each is locked, one after the other, and what that leaves.
 use Rattle.std.proofs.Common.{◌≡◌, ℕ, ◌+◌, ◌<◌, ◌≤◌, Bool, true, false, ◌&&◌, ltb, ◌≢◌, ◌⊎◌, List, [], ◌∷◌, length, get_or, drop, set, sym, refl, ap, ◌∙◌, subst, inl, inr, ⊎_elim, arith}
-use Rattle.std.specs.List.{AllByRecursion}
+use Rattle.std.specs.List.{AllByRecursion, list_all}
 use Rattle.std.proofs.ByRecursion.{All-weaker}
 use Rattle.std.proofs.lemmas.List.{length-set, get_or-set_same, get_or-set_other, set_past, set-get_or, drop_all, drop_more}
 use Rattle.std.proofs.lemmas.Bool.{and_parts, cases_eq, cases_lt, ltb-true}
@@ -8,7 +8,6 @@ use Rattle.std.proofs.lemmas.Bool.Decides.{nat_tests}
 use Rattle.memory.specs.declared.word.Word.{Word}
 use Rattle.memory.specs.Words.{blank, at, there, held_by, holds, free_at, lockable, locked}
 use Rattle.protocol.specs.declared.record.Line.{Line}
-use Rattle.protocol.specs.Lists.{all_by}
 use Rattle.protocol.specs.Kept.{Absent}
 use Rattle.protocol.specs.Lines.{Words, is_current, hold, lock_lines}
 use Rattle.handling.specs.Fitting.{Fit, lockable_lines}
@@ -126,7 +125,7 @@ module _ (h : ℕ) where
   left-none wanted ws ls i past before = (subst (Left wanted ws) (drop_all i ls past) before).0
 
   -- where the lines fit the memory, they can be locked where their words are free and at the versions read
-  pub lockable-fit : (ws : Words) (ls : List Line) → AllByRecursion (Fit (length ws)) ls → holds h ≡ true → lockable_lines ws h ls ≡ all_by (is_current ws) ls
+  pub lockable-fit : (ws : Words) (ls : List Line) → AllByRecursion (Fit (length ws)) ls → holds h ≡ true → lockable_lines ws h ls ≡ list_all (is_current ws) ls
   lockable-fit ws [] fit ok = refl
   lockable-fit ws (l ∷ ls) fit ok =
       let within : l.address < length ws = fit.0.0 in

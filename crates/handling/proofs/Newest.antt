@@ -1,7 +1,6 @@
--- A loop that looks from the last place of a list to the first, for one that passes a test.
-use Rattle.std.proofs.Common.{◌≡◌, ℕ, zero, suc, ◌+◌, ◌-◌, ◌<◌, Bool, true, false, cond, List, [], ◌∷◌, ◌++◌, reverse, take, drop, Some, sym, ap, ◌∙◌, add-one, arith}
+-- The entries in front of a place, turned round: the newest comes first.
+use Rattle.std.proofs.Common.{◌≡◌, ℕ, zero, suc, ◌+◌, List, [], ◌∷◌, ◌++◌, reverse, take, drop, ap, ◌∙◌, add-one, arith}
 use Rattle.std.proofs.lemmas.List.{reverse-append}
-use Rattle.protocol.specs.Lists.{find}
 
 module _ {X : Type 0} where
   take-here : (xs : List X) (i : ℕ) (x : X) (rest : List X) → drop i xs ≡ x ∷ rest → take (suc i) xs ≡ take i xs ++ x ∷ []
@@ -15,15 +14,3 @@ module _ {X : Type 0} where
   turned_more xs i x rest e =
       let more : take (i + 1) xs ≡ take i xs ++ x ∷ [] = rw add-one (take-here xs i x rest e) in
       ap reverse more ∙ reverse-append (take i xs) (x ∷ [])
-
-  turned : (xs : List X) (n : ℕ) (x : X) (rest : List X) → 0 < n → drop (n - 1) xs ≡ x ∷ rest → reverse (take n xs) ≡ x ∷ reverse (take (n - 1) xs)
-  turned xs n x rest l e =
-      let up : n ≡ n - 1 + 1 = omega arith in
-      ap (λ (k : ℕ). reverse (take k xs)) up ∙ turned_more xs (n - 1) x rest e
-
-module _ {X : Type 0} (p : X → Bool) (xs : List X) (n : ℕ) (x : X) (rest : List X) (l : 0 < n) (here : drop (n - 1) xs ≡ x ∷ rest) where
-  pub newest-found : p x ≡ true → find p (reverse (take n xs)) ≡ Some x
-  newest-found e = ap (find p) (turned xs n x rest l here) ∙ ap (λ t. cond t (Some x) (find p (reverse (take (n - 1) xs)))) e
-
-  pub newest-earlier : p x ≡ false → find p (reverse (take (n - 1) xs)) ≡ find p (reverse (take n xs))
-  newest-earlier e = sym (ap (find p) (turned xs n x rest l here) ∙ ap (λ t. cond t (Some x) (find p (reverse (take (n - 1) xs)))) e)

@@ -1,21 +1,21 @@
 -- A loop that picks the elements of a list that pass a test, and the lines that a record has.
 use Rattle.std.proofs.Common.{◌≡◌, ℕ, zero, suc, ◌+◌, ◌<◌, ◌≤◌, Bool, true, false, cond, ◌⊎◌, List, [], ◌∷◌, length, get_or, take, set, sym, refl, ap, ◌∙◌, ⊎_elim, add-one, arith}
+use Rattle.std.specs.List.{filter, push}
 use Rattle.std.proofs.lemmas.List.{length-set, take_more_set}
 use Rattle.protocol.specs.declared.plan.Plan.{Plan}
 use Rattle.protocol.specs.declared.record.Line.{Line}
 use Rattle.protocol.specs.declared.record.Kind.{Kind}
 use Rattle.protocol.specs.declared.record.Kind.TheVariants.{Lock, CommitBackup, CommitPrimary, Abort, Truncate}
-use Rattle.protocol.specs.Lists.{filter, snoc}
 use Rattle.handling.specs.Sending.{is_picked, picked}
 
 module _ {X : Type 0} (f : X → Bool) where
-  either_order : (t b : Bool) (x y : X) (zs : List X) → cond t (x ∷ cond b (snoc zs y) zs) (cond b (snoc zs y) zs) ≡ cond b (snoc (cond t (x ∷ zs) zs) y) (cond t (x ∷ zs) zs)
+  either_order : (t b : Bool) (x y : X) (zs : List X) → cond t (x ∷ cond b (push zs y) zs) (cond b (push zs y) zs) ≡ cond b (push (cond t (x ∷ zs) zs) y) (cond t (x ∷ zs) zs)
   either_order true true x y zs = refl
   either_order true false x y zs = refl
   either_order false true x y zs = refl
   either_order false false x y zs = refl
 
-  filter-suc : (xs : List X) (i : ℕ) (d : X) → i < length xs → filter f (take (suc i) xs) ≡ cond (f (get_or xs i d)) (snoc (filter f (take i xs)) (get_or xs i d)) (filter f (take i xs))
+  filter-suc : (xs : List X) (i : ℕ) (d : X) → i < length xs → filter f (take (suc i) xs) ≡ cond (f (get_or xs i d)) (push (filter f (take i xs)) (get_or xs i d)) (filter f (take i xs))
   filter-suc [] i d l = absurd (omega arith)
   filter-suc (x ∷ xs) zero d l = refl
   filter-suc (x ∷ xs) (suc i) d l =
@@ -29,8 +29,8 @@ pub record Picks {X : Type 0} (f : X → Bool) (xs : List X) (i k n : ℕ) (plac
   pub front : length xs ≤ k → take n places ≡ filter f (take i xs)
 
 module _ {X : Type 0} (f : X → Bool) (xs : List X) (i k n : ℕ) (d : X) (places : List X) (before : Picks f xs i k n places) (in_list : i < length xs) where
-  next : (t : Bool) → f (get_or xs i d) ≡ t → filter f (take (i + 1) xs) ≡ cond t (snoc (filter f (take i xs)) (get_or xs i d)) (filter f (take i xs))
-  next t e = rw add-one (filter-suc f xs i d in_list) ∙ ap (λ u. cond u (snoc (filter f (take i xs)) (get_or xs i d)) (filter f (take i xs))) e
+  next : (t : Bool) → f (get_or xs i d) ≡ t → filter f (take (i + 1) xs) ≡ cond t (push (filter f (take i xs)) (get_or xs i d)) (filter f (take i xs))
+  next t e = rw add-one (filter-suc f xs i d in_list) ∙ ap (λ u. cond u (push (filter f (take i xs)) (get_or xs i d)) (filter f (take i xs))) e
 
   pub picks_more : (n' : ℕ) (places' : List X) → n' ≡ n + 1 → places' ≡ set places n (get_or xs i d) → n < k → f (get_or xs i d) ≡ true → Picks f xs (i + 1) k n' places'
   picks_more n' places' is wrote l e = record {
@@ -41,7 +41,7 @@ module _ {X : Type 0} (f : X → Bool) (xs : List X) (i k n : ℕ) (d : X) (plac
         ap (λ (j : ℕ). take j places') is
         ∙ ap (take (n + 1)) wrote
         ∙ take_more_set places n (get_or xs i d) (omega (arith, before.long))
-        ∙ ap (λ (zs : List X). snoc zs (get_or xs i d)) (before.front short)
+        ∙ ap (λ (zs : List X). push zs (get_or xs i d)) (before.front short)
         ∙ sym (next true e);
   }
 

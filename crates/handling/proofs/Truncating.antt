@@ -1,9 +1,10 @@
 -- A truncation, record by record.
-use Rattle.std.proofs.Common.{◌≡◌, ℕ, ◌+◌, ◌≤◌, Bool, true, false, cond, List, [], ◌∷◌, length, take, drop, Some, sym, refl, ap, ◌∙◌, subst, arith, length-set}
+use Rattle.std.proofs.Common.{◌≡◌, ℕ, ◌+◌, ◌<◌, ◌≤◌, Bool, true, false, cond, List, [], ◌∷◌, length, take, drop, sym, refl, ap, ◌∙◌, subst, arith, length-set, get_or, map, min}
 use Rattle.std.specs.List.{AllByRecursion}
-use Rattle.std.proofs.ByRecursion.{All-drop}
-use Rattle.std.proofs.lemmas.List.{length-take}
+use Rattle.std.proofs.ByRecursion.{All-get_or, All-take}
+use Rattle.std.proofs.lemmas.List.{length-take, drop_more, take-map}
 use Rattle.ring.specs.declared.Ring.{Ring}
+use Rattle.ring.specs.Contents.{contents}
 use Rattle.protocol.specs.declared.plan.Plan.{Plan}
 use Rattle.protocol.specs.declared.record.Line.{Line}
 use Rattle.protocol.specs.declared.record.Record.{Record}
@@ -15,9 +16,10 @@ use Rattle.protocol.specs.Record.{Note, note, kind_eq}
 use Rattle.protocol.specs.Poll.{backup_part, back_up_lines, back_up_records}
 use Rattle.protocol.specs.Kept.{Lines}
 use Rattle.handling.specs.Fitting.{Fit}
-use Rattle.handling.specs.Notes.{notes, NextIs}
+use Rattle.handling.specs.Notes.{notes}
 use Rattle.handling.specs.Handling.{BacksUp, BackedUp, SoundLog}
 use Rattle.handling.proofs.Newest.{turned_more}
+use Rattle.handling.proofs.Peeks.{length-notes}
 
 length-renew : (ws : Words) (l : Line) → length (renew ws l) ≡ length ws
 length-renew ws l = go (is_newer ws l)
@@ -41,36 +43,30 @@ size-lines p m (l ∷ ls) b =
     (rest.0 ∙ one.0, rest.1 ∙ one.1)
 
 -- the lines of a COMMIT-BACKUP are all its lines
-backup_lines-of : (x : Record) → x.kind ≡ CommitBackup → backup_part (note x) ≡ take x.count x.lines
-backup_lines-of x e = ap (λ (k : Kind). cond (kind_eq k CommitBackup) (take x.count x.lines) []) e
+backup_lines-of : (x : Record) → x.kind ≡ CommitBackup → backup_part (note x) ≡ (note x).lines
+backup_lines-of x e = ap (λ (k : Kind). cond (kind_eq k CommitBackup) (note x).lines []) e
 
--- what the lines of a COMMIT-BACKUP do, as `back_up_lines` ensures it of the part that was lent to it
-module _ (p : Plan) (m : ℕ) (x : Record) (k : ℕ) (is : k ≡ x.count) (kind : x.kind ≡ CommitBackup) (f s f' s' : Words) (r : ℕ) where
-  abbrev part : List Line
-  part = take k x.lines
-
-  part-is : part ≡ take x.count x.lines
-  part-is = ap (λ (n : ℕ). take n x.lines) is
-
-  pub backs-up-lines : r ≤ length part → (ls : List Line) → ((n : ℕ) → backups (n + r) f' s' ≡ back_up_lines p m ls (backups n f s))
-      → (AllByRecursion (Fit (length f)) part → length s ≡ length f → (n : ℕ) → backups (n + r) f' s' ≡ back_up_lines p m part (backups n f s)) → BacksUp p m (note x) f s f' s' r
-  backs-up-lines few ls did fits =
-      let sizes = size-lines p m ls (backups 0 f s) in
-      record {
-        few = omega (arith, few, length-take k x.lines, x.few, is);
-        firsts = ap (λ (b : Backups). length b.firsts) (did 0) ∙ sizes.0;
-        seconds = ap (λ (b : Backups). length b.seconds) (did 0) ∙ sizes.1;
-        after = λ good long long' n.
-            fits (subst (λ (j : ℕ). AllByRecursion (Fit j) part) (sym long) (subst (AllByRecursion (Fit (size p))) (sym part-is) good.fit)) (long' ∙ sym long) n
-            ∙ ap (λ (zs : List Line). back_up_lines p m zs (backups n f s)) (part-is ∙ sym (backup_lines-of x kind));
-      }
+-- what the lines of a COMMIT-BACKUP do, as `back_up_lines` ensures it
+pub backs-up-lines : (p : Plan) (m : ℕ) (x : Record) → x.kind ≡ CommitBackup → (f s f' s' : Words) (r : ℕ) (part : List Line) → part ≡ (note x).lines → length part ≤ 4
+    → r ≤ length part → (ls : List Line) → ((n : ℕ) → backups (n + r) f' s' ≡ back_up_lines p m ls (backups n f s))
+    → (AllByRecursion (Fit (length f)) part → length s ≡ length f → (n : ℕ) → backups (n + r) f' s' ≡ back_up_lines p m part (backups n f s)) → BacksUp p m (note x) f s f' s' r
+backs-up-lines p m x kind f s f' s' r part is short few ls did fits =
+    let sizes = size-lines p m ls (backups 0 f s) in
+    record {
+      few = omega arith;
+      firsts = ap (λ (b : Backups). length b.firsts) (did 0) ∙ sizes.0;
+      seconds = ap (λ (b : Backups). length b.seconds) (did 0) ∙ sizes.1;
+      after = λ good long long' n.
+          fits (subst (λ (j : ℕ). AllByRecursion (Fit j) part) (sym long) (subst (AllByRecursion (Fit (size p))) (sym is) good.fit)) (long' ∙ sym long) n
+          ∙ ap (λ (zs : List Line). back_up_lines p m zs (backups n f s)) (is ∙ sym (backup_lines-of x kind));
+    }
 
 no_lines : (x : Record) (k : Kind) → x.kind ≡ k → (x.kind ≡ CommitBackup → ⊥) → backup_part (note x) ≡ []
-no_lines x Lock e n = ap (λ (z : Kind). cond (kind_eq z CommitBackup) (take x.count x.lines) []) e
+no_lines x Lock e n = ap (λ (z : Kind). cond (kind_eq z CommitBackup) (note x).lines []) e
 no_lines x CommitBackup e n = absurd (n e)
-no_lines x CommitPrimary e n = ap (λ (z : Kind). cond (kind_eq z CommitBackup) (take x.count x.lines) []) e
-no_lines x Abort e n = ap (λ (z : Kind). cond (kind_eq z CommitBackup) (take x.count x.lines) []) e
-no_lines x Truncate e n = ap (λ (z : Kind). cond (kind_eq z CommitBackup) (take x.count x.lines) []) e
+no_lines x CommitPrimary e n = ap (λ (z : Kind). cond (kind_eq z CommitBackup) (note x).lines []) e
+no_lines x Abort e n = ap (λ (z : Kind). cond (kind_eq z CommitBackup) (note x).lines []) e
+no_lines x Truncate e n = ap (λ (z : Kind). cond (kind_eq z CommitBackup) (note x).lines []) e
 
 -- any other record puts nothing
 pub backs-up-none : (p : Plan) (m : ℕ) (x : Record) (f s : Words) → (x.kind ≡ CommitBackup → ⊥) → BacksUp p m (note x) f s f s 0
@@ -83,29 +79,47 @@ backs-up-none p m x f s n = record {
       ∙ ap (λ (zs : List Line). back_up_lines p m zs (backups i f s)) (sym (no_lines x x.kind refl n));
 }
 
--- the record at place i, and those of the loop so far
-first-holds : {X : Type 0} (P : X → Type 0) (xs : List X) (x : X) (rest : List X) → xs ≡ x ∷ rest → AllByRecursion P xs → P x
-first-holds P xs x rest e h = (subst (AllByRecursion P) e h).0
+-- the polled records, the oldest first
+abbrev pub in_order : Ring → List Record → List Note
+in_order log slots = take log.cursor (notes log slots)
 
-pub lines_at : (p : Plan) (ns : List Note) (i : ℕ) (x : Record) → NextIs ns i (Some x) → AllByRecursion (λ r. Lines p r.lines) ns → Lines p (note x).lines
-lines_at p ns i x e h = first-holds (λ r. Lines p r.lines) (drop i ns) (note x) _ e (All-drop _ i ns h)
+-- what is polled of the log is its notes in order
+pub in_order-polled : (log : Ring) (slots xs : List Record) → xs ≡ take log.cursor (contents log slots) → map note xs ≡ in_order log slots
+in_order-polled log slots xs e = ap (map note) e ∙ sym (take-map note log.cursor (contents log slots))
+
+-- x is the note at place i
+abbrev pub At : List Note → ℕ → Note → Type 0
+At ns i x = (i < length ns) × (x ≡ get_or ns i x)
+
+here-at : (ns : List Note) (i : ℕ) (x : Note) → At ns i x → drop i ns ≡ x ∷ drop (i + 1) ns
+here-at ns i x at = drop_more ns i x at.0 ∙ ap (λ (y : Note). y ∷ drop (i + 1) ns) (sym at.1)
 
 module _ (p : Plan) (m i : ℕ) (log : Ring) (slots : List Record) (f s : Words) where
   -- the memories have the plan's words, and the log is sound
   abbrev Good : Type 0
   Good = SoundLog p log slots × (length f ≡ size p) × (length s ≡ size p)
 
-  pub backed-more : (x : Record) (puts r : ℕ) (a b a' b' : Words) → NextIs (notes log slots) i (Some x) → Good
-      → BackedUp p m i (notes log slots) f s a b puts → BacksUp p m (note x) a b a' b' r → BackedUp p m (i + 1) (notes log slots) f s a' b' (puts + r)
-  backed-more x puts r a b a' b' here good before did = record {
-    few = omega (arith, before.few, did.few);
-    firsts = did.firsts ∙ before.firsts;
-    seconds = did.seconds ∙ before.seconds;
-    after =
-        did.after (lines_at p (notes log slots) i x here good.0.lines) (before.firsts ∙ good.1) (before.seconds ∙ good.2) puts
-        ∙ ap (back_up_lines p m (backup_part (note x))) before.after
-        ∙ ap (λ (rs : List Note). back_up_records p m rs (backups 0 f s)) (sym (turned_more (notes log slots) i (note x) _ here));
-  }
+  module _ (x : Note) (puts r : ℕ) (a b a' b' : Words) (here : At (in_order log slots) i x) (good : Good) (before : BackedUp p m i (in_order log slots) f s a b puts) (did : BacksUp p m x a b a' b' r) where
+    fit : Lines p x.lines
+    fit = subst (λ (y : Note). Lines p y.lines) (sym here.1) (All-get_or (λ (y : Note). Lines p y.lines) (in_order log slots) i x here.0 (All-take _ log.cursor (notes log slots) good.0.lines))
+
+    more : BackedUp p m (i + 1) (in_order log slots) f s a' b' (puts + r)
+    more = record {
+      few = omega (arith, before.few, did.few);
+      firsts = did.firsts ∙ before.firsts;
+      seconds = did.seconds ∙ before.seconds;
+      after =
+          did.after fit (before.firsts ∙ good.1) (before.seconds ∙ good.2) puts
+          ∙ ap (back_up_lines p m (backup_part x)) before.after
+          ∙ ap (λ (rs : List Note). back_up_records p m rs (backups 0 f s)) (sym (turned_more (in_order log slots) i x _ (here-at (in_order log slots) i x here)));
+    }
+
+    -- a sound log has few records, so their puts can be counted
+    pub backed-more : (j puts' : ℕ) → j ≡ i + 1 → puts' ≡ min (puts + r) 18446744073709551615 → BackedUp p m j (in_order log slots) f s a' b' puts'
+    backed-more j puts' next count =
+        let fits : puts' ≡ puts + r =
+        omega (arith, count, here.0, length-take log.cursor (notes log slots), length-notes log slots good.0.stands, good.0.stands.len, good.0.few, before.few, did.few) in
+        subst (λ (n : ℕ). BackedUp p m n (in_order log slots) f s a' b' puts') (sym next) (subst (BackedUp p m (i + 1) (in_order log slots) f s a' b') (sym fits) more)
 
 pub backed-none : (p : Plan) (m : ℕ) (ns : List Note) (f s : Words) → BackedUp p m 0 ns f s f s 0
 backed-none p m ns f s = record { few = omega arith; firsts = refl; seconds = refl; after = refl }

@@ -1,9 +1,9 @@
 -- Which lines of a record a memory takes, whatever words it has.
 use Rattle.std.specs.Prelude.{ℕ, ◌+◌, ◌^◌, ◌<◌, Bool, cond, ◌&&◌, List, [], ◌∷◌, ◌==◌, nat_lt}
+use Rattle.std.specs.List.{list_all, filter}
 use Rattle.memory.specs.Words.{lockable, freeable}
 use Rattle.protocol.specs.declared.plan.Plan.{Plan}
 use Rattle.protocol.specs.declared.record.Line.{Line}
-use Rattle.protocol.specs.Lists.{all_by, filter}
 use Rattle.protocol.specs.Plan.{home_of}
 use Rattle.protocol.specs.Lines.{Words, hold}
 
@@ -20,7 +20,7 @@ fitting n ls = filter (is_fit n) ls
 
 -- each line's word is there, free and at the version read, and the holder is 1 to 15
 abbrev pub lockable_lines : Words → ℕ → List Line → Bool
-lockable_lines ws holder ls = all_by (λ l. lockable ws l.address l.version holder) ls
+lockable_lines ws holder ls = list_all (λ l. lockable ws l.address l.version holder) ls
 
 -- the lines whose word the holder has, where a word that two lines name is freed by the first
 abbrev pub freed_lines : Words → ℕ → List Line → List Line

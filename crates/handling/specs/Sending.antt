@@ -1,11 +1,11 @@
 -- What a commit writes into the logs: to which machines, how many records, and what each says.
-use Rattle.std.specs.Prelude.{ℕ, ◌+◌, ◌-◌, ◌<◌, Bool, false, not, List, [], ◌∷◌, Some, None, Option, ◌==◌}
-use Rattle.std.specs.List.{AllByRecursion}
+use Rattle.std.specs.Prelude.{ℕ, ◌+◌, ◌-◌, ◌<◌, Bool, false, List, [], ◌∷◌, Some, None, Option, ◌==◌}
+use Rattle.std.specs.List.{AllByRecursion, filter, list_any}
 use Rattle.protocol.specs.declared.plan.Plan.{Plan}
 use Rattle.protocol.specs.declared.record.Line.{Line}
 use Rattle.protocol.specs.declared.record.Kind.{Kind}
 use Rattle.protocol.specs.declared.record.Kind.TheVariants.{Lock, CommitBackup, CommitPrimary, Abort, Truncate}
-use Rattle.protocol.specs.Lists.{is_empty, filter, counting}
+use Rattle.protocol.specs.Lists.{counting}
 use Rattle.protocol.specs.Plan.{home_of}
 use Rattle.protocol.specs.Record.{Note}
 use Rattle.protocol.specs.Room.{primary_lines, backup_lines, is_backup, is_at_primary, is_at_backup, regions_byte, one_if}
@@ -46,7 +46,7 @@ is_picked p Truncate m a = false
 
 -- it has a line
 abbrev pub has_picked : Plan → Kind → ℕ → List Line → Bool
-has_picked p kind m ws = not (is_empty (filter (λ l. is_picked p kind m l.address) ws))
+has_picked p kind m ws = list_any (λ l. is_picked p kind m l.address) ws
 
 -- the lines that it has
 abbrev pub picked : Plan → Kind → ℕ → List Line → List Line

@@ -1,26 +1,24 @@
 // What a machine does with the record that it polls.
-ghost use Rattle.std.specs.Prelude.{◌≡◌, ℕ, suc, ◌+◌, ◌<◌, ◌≤◌, List, reverse, length};
-ghost use Rattle.std.specs.List.{AllByRecursion};
+ghost use Rattle.std.specs.Prelude.{◌≡◌, suc, ◌<◌, length};
 ghost use Rattle.protocol.specs.Record.{note};
 ghost use Rattle.protocol.specs.Plan.{size};
-ghost use Rattle.protocol.specs.Lines.{install_lines, held_lines, free_lines, Backups, backups};
+ghost use Rattle.protocol.specs.Lines.{install_lines, held_lines, free_lines, backups};
 ghost use Rattle.protocol.specs.Poll.{locked_lines, back_up_records};
 ghost use Rattle.protocol.specs.Kept.{Lines};
-ghost use Rattle.handling.specs.Notes.{notes, polled};
+ghost use Rattle.handling.specs.Notes.{polled};
 ghost use Rattle.handling.specs.Handling.{effect, handled, HandlesLock, BacksUp, SoundLog, Ready};
 
 use crate::lines::{back_up_lines, free_lines, install_lines, lock_lines};
-use crate::logs::{find_lock, record_at};
+use crate::logs::Log;
 use memory::interface::Memory;
 use protocol::plan::Plan;
 use protocol::record::{Kind, Record};
-use ring::Ring;
 
-// How many lines were locked, put or freed, and whether a LOCK was granted.
+// How many lines were locked, put or freed, and the reply to a LOCK: whether it was granted.
 #[derive(Clone, Copy)]
 pub struct Done {
     pub count: u64,
-    pub granted: bool,
+    pub reply: Option<bool>,
 }
 
 // Puts the lines of a COMMIT-BACKUP into the backups of machine m, and counts the puts.
@@ -36,8 +34,7 @@ fn back_up_record<F: Memory, S: Memory>(
     match entry.kind {
         Kind::CommitBackup => {
             let lines = entry.lines;
-            let count = entry.count as usize;
-            back_up_lines(plan, m, &lines[0..count], firsts, seconds)
+            back_up_lines(plan, m, lines.as_slice(), firsts, seconds)
         }
         _ => 0,
     }
@@ -47,20 +44,16 @@ fn back_up_record<F: Memory, S: Memory>(
 pub fn truncate<F: Memory, S: Memory>(
     plan: &Plan,
     m: u8,
-    log: &Ring,
-    slots: &[Record],
+    log: &Log<'_>,
     firsts: &mut F,
     seconds: &mut S,
 ) -> usize
-    ensures { SoundLog plan.now log.now slots.now → length (F.Memory.words firsts.old) ≡ size plan.now → length (S.Memory.words seconds.old) ≡ size plan.now
-        → backups result (F.Memory.words firsts.new) (S.Memory.words seconds.new) ≡ back_up_records plan.now m (polled log.now slots.now) (backups 0 (F.Memory.words firsts.old) (S.Memory.words seconds.old)) }
+    ensures { SoundLog plan.now log.now.ring.now log.now.slots.now → length (F.Memory.words firsts.old) ≡ size plan.now → length (S.Memory.words seconds.old) ≡ size plan.now
+        → backups result (F.Memory.words firsts.new) (S.Memory.words seconds.new) ≡ back_up_records plan.now m (polled log.now.ring.now log.now.slots.now) (backups 0 (F.Memory.words firsts.old) (S.Memory.words seconds.old)) }
 {
     let mut puts: usize = 0;
-    for i in 0..log.cursor {
-        let Some(entry) = record_at(log, slots, i) else {
-            return puts;
-        };
-        puts = puts.saturating_add(back_up_record(plan, m, &entry, firsts, seconds));
+    for entry in log.polled() {
+        puts = puts.saturating_add(back_up_record(plan, m, entry, firsts, seconds));
     }
     puts
 }
@@ -70,55 +63,29 @@ fn lock<P: Memory>(plan: &Plan, c: u8, found: &Record, primaries: &mut P) -> Don
     ensures { HandlesLock plan.now c (note found.now) (P.words primaries.old) (P.words primaries.new) result }
 {
     let lines = found.lines;
-    let count = found.count as usize;
-    let granted = lock_lines(primaries, &lines[0..count], c.saturating_add(1));
+    let granted = lock_lines(primaries, lines.as_slice(), c.saturating_add(1));
     Done {
-        count: if granted { found.count as u64 } else { 0 },
-        granted,
+        count: if granted { lines.len() as u64 } else { 0 },
+        reply: Some(granted),
     }
 }
 
 // A COMMIT-PRIMARY: each line of the transaction's LOCK is put at the version after the one read.
-fn install<P: Memory>(
-    plan: &Plan,
-    log: &Ring,
-    slots: &[Record],
-    number: u64,
-    primaries: &mut P,
-) -> usize
-    ensures { let ls = locked_lines number (polled log.now slots.now) in (SoundLog plan.now log.now slots.now → length (P.words primaries.old) ≡ size plan.now
+fn install<P: Memory>(plan: &Plan, log: &Log<'_>, number: u64, primaries: &mut P) -> usize
+    ensures { let ls = locked_lines number (polled log.now.ring.now log.now.slots.now) in (SoundLog plan.now log.now.ring.now log.now.slots.now → length (P.words primaries.old) ≡ size plan.now
         → (P.words primaries.new ≡ install_lines (P.words primaries.old) ls) × (result ≡ length ls)) }
 {
-    match find_lock(log, slots, number) {
-        Some(entry) => {
-            let lines = entry.lines;
-            let count = entry.count as usize;
-            install_lines(primaries, &lines[0..count])
-        }
-        None => 0,
-    }
+    let lines = log.locked_lines(number);
+    install_lines(primaries, lines.as_slice())
 }
 
 // An ABORT: those lines of the transaction's LOCK that the coordinator holds are freed.
-fn release<P: Memory>(
-    plan: &Plan,
-    c: u8,
-    log: &Ring,
-    slots: &[Record],
-    number: u64,
-    primaries: &mut P,
-) -> usize
-    ensures { let ls = locked_lines number (polled log.now slots.now) in (SoundLog plan.now log.now slots.now → length (P.words primaries.old) ≡ size plan.now → c < 15
+fn release<P: Memory>(plan: &Plan, c: u8, log: &Log<'_>, number: u64, primaries: &mut P) -> usize
+    ensures { let ls = locked_lines number (polled log.now.ring.now log.now.slots.now) in (SoundLog plan.now log.now.ring.now log.now.slots.now → length (P.words primaries.old) ≡ size plan.now → c < 15
         → (P.words primaries.new ≡ free_lines (P.words primaries.old) (held_lines (P.words primaries.old) (suc c) ls)) × (result ≡ length (held_lines (P.words primaries.old) (suc c) ls))) }
 {
-    match find_lock(log, slots, number) {
-        Some(entry) => {
-            let lines = entry.lines;
-            let count = entry.count as usize;
-            free_lines(primaries, &lines[0..count], c.saturating_add(1))
-        }
-        None => 0,
-    }
+    let lines = log.locked_lines(number);
+    free_lines(primaries, lines.as_slice(), c.saturating_add(1))
 }
 
 // Machine m handles a record of coordinator c, behind the polled records of its log.
@@ -126,43 +93,25 @@ pub fn handle<P: Memory, F: Memory, S: Memory>(
     plan: &Plan,
     c: u8,
     m: u8,
-    log: &Ring,
-    slots: &[Record],
+    log: &Log<'_>,
     found: &Record,
     primaries: &mut P,
     firsts: &mut F,
     seconds: &mut S,
 ) -> Done
-    ensures { Ready plan.now log.now slots.now (P.Memory.words primaries.old) (F.Memory.words firsts.old) (S.Memory.words seconds.old) → Lines plan.now (note found.now).lines → c < 15
-        → effect result.count result.granted (P.Memory.words primaries.new) (F.Memory.words firsts.new) (S.Memory.words seconds.new)
-        ≡ handled plan.now c m (P.Memory.words primaries.old) (F.Memory.words firsts.old) (S.Memory.words seconds.old) (polled log.now slots.now) (note found.now) found.now.kind }
+    ensures { Ready plan.now log.now.ring.now log.now.slots.now (P.Memory.words primaries.old) (F.Memory.words firsts.old) (S.Memory.words seconds.old) → Lines plan.now (note found.now).lines → c < 15
+        → effect result.count result.reply (P.Memory.words primaries.new) (F.Memory.words firsts.new) (S.Memory.words seconds.new)
+        ≡ handled plan.now c m (P.Memory.words primaries.old) (F.Memory.words firsts.old) (S.Memory.words seconds.old) (polled log.now.ring.now log.now.slots.now) (note found.now) found.now.kind }
 {
-    match found.kind {
-        Kind::Lock => lock(plan, c, found, primaries),
-        Kind::CommitBackup => Done {
-            count: 0,
-            granted: false,
-        },
-        Kind::CommitPrimary => {
-            let count = install(plan, log, slots, found.number, primaries);
-            Done {
-                count: count as u64,
-                granted: false,
-            }
-        }
-        Kind::Abort => {
-            let count = release(plan, c, log, slots, found.number, primaries);
-            Done {
-                count: count as u64,
-                granted: false,
-            }
-        }
-        Kind::Truncate => {
-            let count = truncate(plan, m, log, slots, firsts, seconds);
-            Done {
-                count: count as u64,
-                granted: false,
-            }
-        }
+    let count = match found.kind {
+        Kind::Lock => return lock(plan, c, found, primaries),
+        Kind::CommitBackup => 0,
+        Kind::CommitPrimary => install(plan, log, found.number, primaries),
+        Kind::Abort => release(plan, c, log, found.number, primaries),
+        Kind::Truncate => truncate(plan, m, log, firsts, seconds),
+    };
+    Done {
+        count: count as u64,
+        reply: None,
     }
 }

@@ -1,9 +1,8 @@
 // What the lines of a record do to the memories. A line that does not fit a memory is passed over.
 ghost use Rattle.std.specs.Prelude.{◌≡◌, ℕ, ◌+◌, ◌≤◌, true, ◌&&◌, length, if◌then◌else◌};
-ghost use Rattle.std.specs.List.{AllByRecursion};
+ghost use Rattle.std.specs.List.{AllByRecursion, list_all};
 ghost use Rattle.memory.specs.Words.{holds, lockable, freeable};
 ghost use Rattle.protocol.specs.Kept.{Apart};
-ghost use Rattle.protocol.specs.Lists.{all_by};
 ghost use Rattle.protocol.specs.Lines.{is_current, hold, put, lock_lines, install_lines, held_lines, free_lines, is_newer, renew, backups, back_up};
 ghost use Rattle.protocol.specs.Poll.{back_up_lines};
 ghost use Rattle.handling.specs.Fitting.{Fit, is_fit, fitting, lockable_lines, freed_lines, is_first_backup, is_fit_backup, fitting_backup};
@@ -29,7 +28,7 @@ pub fn lock_lines<M: Memory>(memory: &mut M, lines: &[Line], holder: u8) -> bool
     ensures answers { result ≡ lockable_lines (M.words memory.old) holder lines.now }
     ensures after { M.words memory.new ≡ (if result then lock_lines (M.words memory.old) holder lines.now else M.words memory.old) }
     ensures held { result ≡ true → Held holder lines.now (M.words memory.old) (M.words memory.new) }
-    ensures all_fit { AllByRecursion (Fit (length (M.words memory.old))) lines.now → holds holder ≡ true → result ≡ all_by (is_current (M.words memory.old)) lines.now }
+    ensures all_fit { AllByRecursion (Fit (length (M.words memory.old))) lines.now → holds holder ≡ true → result ≡ list_all (is_current (M.words memory.old)) lines.now }
 {
     for line in lines {
         if !can_lock(memory, line, holder) {

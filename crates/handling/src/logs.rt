@@ -1,48 +1,83 @@
 // Looking through a log.
-ghost use Rattle.std.specs.Prelude.{◌≡◌, length};
-ghost use Rattle.ring.specs.Contents.{Sound};
-ghost use Rattle.protocol.specs.Lists.{find};
-ghost use Rattle.protocol.specs.Record.{note};
-ghost use Rattle.protocol.specs.Poll.{is_lock_of};
+ghost use Rattle.std.specs.Prelude.{◌≡◌, length, take};
+ghost use Rattle.std.specs.List.{find};
+ghost use Rattle.ring.specs.Contents.{Sound, contents};
+ghost use Rattle.ring.specs.Left.{left};
+ghost use Rattle.protocol.specs.LineVec.{listed};
+ghost use Rattle.protocol.specs.Record.{note, is_untrimmed};
+ghost use Rattle.protocol.specs.Poll.{is_lock_of, locked_lines};
 ghost use Rattle.handling.specs.Notes.{notes, polled, noted, NextIs};
 
+use protocol::lines::LineVec;
 use protocol::record::{Kind, Record};
 use ring::Ring;
+use ring::entries::Entries;
 
-// The record i places after the front.
-pub(crate) fn record_at(log: &Ring, slots: &[Record], i: usize) -> Option<Record>
-    ensures { Sound log.now (length slots.now) → NextIs (notes log.now slots.now) i result }
-{
-    log.peek(slots, i)
+// A log: its ring, and the slots that its records lie in.
+#[derive(Clone, Copy)]
+pub struct Log<'a> {
+    pub ring: &'a Ring,
+    pub slots: &'a [Record],
 }
 
-// The next record to be polled.
-pub fn next_record(log: &Ring, slots: &[Record]) -> Option<Record>
-    ensures { Sound log.now (length slots.now) → NextIs (notes log.now slots.now) log.now.cursor result }
-{
-    record_at(log, slots, log.cursor)
+impl<'a> Log<'a> {
+    // The record i places after the front.
+    pub(crate) fn record(&self, i: usize) -> Option<Record>
+        ensures { Sound self.now.ring.now (length self.now.slots.now) → NextIs (notes self.now.ring.now self.now.slots.now) i result }
+    {
+        self.ring.peek(self.slots, i)
+    }
+
+    // The polled records, from the oldest on.
+    pub(crate) fn polled(&self) -> Entries<'a, Record>
+        ensures { Sound self.now.ring.now (length self.now.slots.now) → left result ≡ take self.now.ring.now.cursor (contents self.now.ring.now self.now.slots.now) }
+    {
+        self.ring.polled(self.slots)
+    }
+
+    // The next record to be polled.
+    pub fn next(&self) -> Option<Record>
+        ensures { Sound self.now.ring.now (length self.now.slots.now) → NextIs (notes self.now.ring.now self.now.slots.now) self.now.ring.now.cursor result }
+    {
+        self.record(self.ring.cursor)
+    }
+
+    // The LOCK of a transaction: the newest with its number among the polled records.
+    pub fn find_lock(&self, number: u64) -> Option<Record>
+        ensures { Sound self.now.ring.now (length self.now.slots.now) → noted result ≡ find (is_lock_of number) (polled self.now.ring.now self.now.slots.now) }
+    {
+        self.polled()
+            .rev()
+            .find(|entry| is_lock_of(entry, number))
+            .copied()
+    }
+
+    // The lines of that LOCK.
+    pub fn locked_lines(&self, number: u64) -> LineVec<4>
+        ensures { Sound self.now.ring.now (length self.now.slots.now) → listed result ≡ locked_lines number (polled self.now.ring.now self.now.slots.now) }
+    {
+        match self.find_lock(number) {
+            Some(entry) => entry.lines,
+            None => LineVec::new(),
+        }
+    }
+
+    // The last record is no TRUNCATE.
+    pub fn is_untrimmed(&self) -> bool
+        ensures { Sound self.now.ring.now (length self.now.slots.now) → result ≡ is_untrimmed (notes self.now.ring.now self.now.slots.now) }
+    {
+        if self.ring.len == 0 {
+            return false;
+        }
+        let Some(last) = self.record(self.ring.len - 1) else {
+            return false;
+        };
+        last.kind != Kind::Truncate
+    }
 }
 
 fn is_lock_of(entry: &Record, number: u64) -> bool
     ensures { result ≡ is_lock_of number (note entry.now) }
 {
-    match entry.kind {
-        Kind::Lock => entry.number == number,
-        _ => false,
-    }
-}
-
-// The LOCK of a transaction: the newest with its number among the polled records.
-pub fn find_lock(log: &Ring, slots: &[Record], number: u64) -> Option<Record>
-    ensures { Sound log.now (length slots.now) → noted result ≡ find (is_lock_of number) (polled log.now slots.now) }
-{
-    for i in (0..log.cursor).rev() {
-        let Some(entry) = record_at(log, slots, i) else {
-            return None;
-        };
-        if is_lock_of(&entry, number) {
-            return Some(entry);
-        }
-    }
-    None
+    entry.kind == Kind::Lock && entry.number == number
 }

@@ -1,10 +1,13 @@
 // The records that a coordinator sends.
-ghost use Rattle.std.specs.Prelude.{◌≡◌, ◌/◌, ◌^◌, ◌<◌, ◌≤◌, length, take};
+ghost use Rattle.std.specs.Prelude.{◌≡◌, ◌-◌, ◌/◌, ◌^◌, ◌<◌, ◌≤◌, length};
+ghost use Rattle.std.specs.List.{find, range_with_len};
+ghost use Rattle.protocol.specs.LineVec.{listed};
 ghost use Rattle.protocol.specs.Record.{note};
 ghost use Rattle.protocol.specs.Room.{regions_byte};
-ghost use Rattle.handling.specs.Sending.{is_due, due_from, first_machine, OfPlan, picked, InEightRegions, regions_in, record_of};
+ghost use Rattle.handling.specs.Sending.{is_due, OfPlan, picked, InEightRegions, regions_in, record_of};
 
 use crate::room::{at_backup, at_primary, picks};
+use protocol::lines::LineVec;
 use protocol::plan::Plan;
 use protocol::record::{Kind, Line, Record};
 
@@ -21,15 +24,10 @@ fn is_due(plan: &Plan, kind: Kind, m: u8, lines: &[Line]) -> bool
 
 // The lowest machine from `from` on that a record of that kind is due to.
 pub fn next_due(plan: &Plan, kind: Kind, from: u8, lines: &[Line]) -> Option<u8>
-    ensures lowest { result ≡ first_machine (due_from plan.now kind lines.now from) }
+    ensures lowest { result ≡ find (is_due plan.now kind lines.now) (range_with_len from (plan.now.machines - from)) }
     ensures within { OfPlan plan.now result }
 {
-    for m in from..plan.machines {
-        if is_due(plan, kind, m, lines) {
-            return Some(m);
-        }
-    }
-    None
+    (from..plan.machines).find(|m| is_due(plan, kind, *m, lines))
 }
 
 fn bit(region: u16) -> u8
@@ -57,26 +55,17 @@ pub fn regions_of(lines: &[Line]) -> u8
     byte
 }
 
-// The lines of a record of that kind for machine m, four at most, behind their number.
-fn lines_for(plan: &Plan, kind: Kind, m: u8, lines: &[Line]) -> (u8, [Line; 4])
-    ensures few { result.0 ≤ 4 }
-    ensures four { length result.1 ≡ 4 }
-    ensures are { length lines.now ≤ 4 → take result.0 result.1 ≡ picked plan.now kind m lines.now }
+// The lines of a record of that kind for machine m, four at most.
+fn lines_for(plan: &Plan, kind: Kind, m: u8, lines: &[Line]) -> LineVec<4>
+    ensures { length lines.now ≤ 4 → listed result ≡ picked plan.now kind m lines.now }
 {
-    let mut places = [Line {
-        address: 0,
-        version: 0,
-        value: 0,
-    }; 4];
-    let mut n: usize = 0;
+    let mut picked = LineVec::new();
     for line in lines {
-        let belongs = picks(plan, kind, m, line.address);
-        if belongs && n < 4 {
-            places[n] = *line;
-            n += 1;
+        if picks(plan, kind, m, line.address) {
+            picked.push(*line);
         }
     }
-    (n as u8, places)
+    picked
 }
 
 fn regions_for(kind: Kind, lines: &[Line]) -> u8
@@ -92,14 +81,11 @@ fn regions_for(kind: Kind, lines: &[Line]) -> u8
 pub fn record_for(plan: &Plan, c: u8, number: u64, kind: Kind, m: u8, lines: &[Line]) -> Record
     ensures { length lines.now ≤ 4 → InEightRegions lines.now → note result ≡ record_of plan.now c number kind m lines.now }
 {
-    let regions = regions_for(kind, lines);
-    let (count, places) = lines_for(plan, kind, m, lines);
     Record {
         kind,
         coordinator: c,
         number,
-        regions,
-        count,
-        lines: places,
+        regions: regions_for(kind, lines),
+        lines: lines_for(plan, kind, m, lines),
     }
 }

@@ -1,31 +1,21 @@
 // Where lines belong, and whether a commit finds room in its coordinator's logs.
 ghost use Rattle.std.specs.Prelude.{◌≡◌, ◌+◌, ◌≤◌, not, ◌||◌, length, ◌==◌, nat_le};
 ghost use Rattle.ring.specs.Contents.{Sound};
-ghost use Rattle.protocol.specs.declared.record.Kind.TheVariants.{Truncate};
 ghost use Rattle.protocol.specs.Plan.{home_of};
-ghost use Rattle.protocol.specs.Record.{kind_eq, is_untrimmed};
 ghost use Rattle.protocol.specs.Room.{is_at_primary, is_backup, is_at_backup, with_trim, one_if};
 ghost use Rattle.handling.specs.Notes.{notes};
 ghost use Rattle.handling.specs.Sending.{is_picked, has_picked, wanted};
 
-use crate::logs::record_at;
+use crate::logs::Log;
 use protocol::plan::{Home, Plan};
-use protocol::record::{Kind, Line, Record};
-use ring::Ring;
+use protocol::record::{Kind, Line};
 
 // The home of an address; past the last region it is machine 0 three times.
 pub fn home(plan: &Plan, address: u16) -> Home
     ensures { result ≡ home_of plan.now address }
 {
     let region = (address / 64) as usize;
-    if region >= 8 {
-        return Home {
-            primary: 0,
-            first: 0,
-            second: 0,
-        };
-    }
-    plan.homes[region]
+    plan.homes.get(region).copied().unwrap_or_default()
 }
 
 pub fn is_primary(plan: &Plan, address: u16, m: u8) -> bool
@@ -55,12 +45,7 @@ pub(crate) fn picks(plan: &Plan, kind: Kind, m: u8, address: u16) -> bool
 fn has_picked(plan: &Plan, kind: Kind, m: u8, lines: &[Line]) -> bool
     ensures { result ≡ has_picked plan.now kind m lines.now }
 {
-    for line in lines {
-        if picks(plan, kind, m, line.address) {
-            return true;
-        }
-    }
-    false
+    lines.iter().any(|line| picks(plan, kind, m, line.address))
 }
 
 // A line has its primary on machine m: the LOCK for m has lines.
@@ -87,28 +72,6 @@ pub fn to_write(plan: &Plan, lines: &[Line], m: u8) -> usize
     primary + backup + primary
 }
 
-fn is_truncate(kind: Kind) -> bool
-    ensures { result ≡ kind_eq kind Truncate }
-{
-    match kind {
-        Kind::Truncate => true,
-        _ => false,
-    }
-}
-
-// The last record is no TRUNCATE.
-pub fn untrimmed(log: &Ring, slots: &[Record]) -> bool
-    ensures { Sound log.now (length slots.now) → result ≡ is_untrimmed (notes log.now slots.now) }
-{
-    if log.len == 0 {
-        return false;
-    }
-    let Some(last) = record_at(log, slots, log.len - 1) else {
-        return false;
-    };
-    !is_truncate(last.kind)
-}
-
 // Behind `len` records there are places for n more, and for a TRUNCATE where one is then wanted.
 fn are_free(len: usize, n: usize, untrimmed: bool, capacity: usize) -> bool
     ensures { result ≡ nat_le (len + (n + one_if (not (n == 0) || untrimmed))) capacity }
@@ -119,9 +82,11 @@ fn are_free(len: usize, n: usize, untrimmed: bool, capacity: usize) -> bool
     n < capacity - len || (n == 0 && !untrimmed)
 }
 
-// The log has room for n records more, and for a TRUNCATE where one is then wanted.
-pub fn has_place(log: &Ring, slots: &[Record], n: usize, capacity: usize) -> bool
-    ensures { Sound log.now (length slots.now) → result ≡ nat_le (length (notes log.now slots.now) + with_trim n (notes log.now slots.now)) capacity }
-{
-    are_free(log.len, n, untrimmed(log, slots), capacity)
+impl<'a> Log<'a> {
+    // The log has room for n records more, and for a TRUNCATE where one is then wanted.
+    pub fn has_place(&self, n: usize, capacity: usize) -> bool
+        ensures { Sound self.now.ring.now (length self.now.slots.now) → result ≡ nat_le (length (notes self.now.ring.now self.now.slots.now) + with_trim n (notes self.now.ring.now self.now.slots.now)) capacity }
+    {
+        are_free(self.ring.len, n, self.is_untrimmed(), capacity)
+    }
 }

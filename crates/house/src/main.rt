@@ -4,10 +4,9 @@
 use memory::cells::Cells;
 use memory::joined::Joined;
 use memory::packed::Packed;
-use playback::row::{name, row_of};
+use playback::row::{Row, name};
 use protocol::call::Call;
 use protocol::plan::{Home, Plan};
-use service::make::HandedBack;
 use service::owner::Directory;
 use std::alloc::Global;
 use std::io;
@@ -38,17 +37,7 @@ fn house(heap: Global) -> Option<House> {
     let front = Cells::new(heap, 24).ok()?;
     let back = Packed::new(heap, 40).ok()?;
     let seconds = Joined::new(front, back).ok()?;
-    match Directory::new(heap, plan(), primaries, firsts, seconds) {
-        Ok(house) => Some(house),
-        Err(
-            HandedBack {
-                cause: _,
-                primaries: _,
-                firsts: _,
-                seconds: _,
-            },
-        ) => None,
-    }
+    Directory::new(heap, plan(), primaries, firsts, seconds).ok()
 }
 
 fn main(rt: HostRuntime) -> io::Result<()> {
@@ -73,13 +62,9 @@ fn main(rt: HostRuntime) -> io::Result<()> {
     };
     let answers = house.run(heap, &calls)?;
     for (call, answer) in calls.iter().zip(answers.iter()) {
-        let row = row_of(*answer);
         let name = name(*call);
-        let refusal = row.refusal;
-        let first = row.first;
-        let second = row.second;
-        let outcome = row.outcome;
-        println!(rt; "{name} {refusal} {first} {second} {outcome}")?;
+        let row = Row::from(*answer);
+        println!(rt; "{name} {row}")?;
     }
     Ok(())
 }

@@ -1,4 +1,3 @@
-pub mod Blanks
 pub mod Changes
 pub mod Joining
 pub mod Laws

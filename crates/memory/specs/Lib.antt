@@ -7,4 +7,3 @@ pub mod Requests
 pub mod Words
 pub mod Joining
 pub mod PackingLemmas
-pub mod Sizing

@@ -22,6 +22,6 @@ unpacked-proper bs k =
       | inr h ↦ rw (get_or_past (unpacked bs) k blank (rw (length-unpacked bs) h)) (lit< tt, lit< tt)
     ]
 
--- n bytes, from 16 to 1048576, are as many words as a memory may have
-pub unpacked-sized : (bs : List ℕ) (n : ℕ) → n ≡ length bs → 16 ≤ n → n ≤ 1048576 → (1 ≤ length (unpacked bs)) × (length (unpacked bs) ≤ 65536)
-unpacked-sized bs n long some few = let words = length-unpacked bs in (omega arith, omega arith)
+-- bytes from 16 to 1048576 are as many words as a memory may have
+pub unpacked-sized : (bs : List ℕ) → 16 ≤ length bs → length bs ≤ 1048576 → (1 ≤ length (unpacked bs)) × (length (unpacked bs) ≤ 65536)
+unpacked-sized bs some few = let words = length-unpacked bs in (omega arith, omega arith)

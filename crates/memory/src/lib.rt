@@ -8,6 +8,7 @@ pub mod make;
 pub mod packed;
 pub mod request;
 pub mod runs;
+mod store;
 #[cfg(test)]
 mod tests;
 pub mod word;

@@ -1,10 +1,10 @@
-ghost use Rattle.std.specs.Prelude.{◌≡◌, Decides};
+ghost use Rattle.std.specs.Prelude.{◌≡◌};
 ghost use Rattle.memory.specs.Requests.{response, words_after};
 
 use crate::interface::Memory;
 
 // One of a memory's five functions, with its arguments in their order: address first.
-#[derive(Clone, Copy)]
+#[derive(Debug, Clone, Copy, PartialEq, Eq)]
 pub enum Request {
     Size,
     Look(usize),
@@ -14,7 +14,7 @@ pub enum Request {
 }
 
 // What a memory answers: how many words it has, what a look shows, or yes or no.
-#[derive(Clone, Copy, PartialEq, Eq)]
+#[derive(Debug, Clone, Copy, PartialEq, Eq)]
 pub enum Response {
     Count(usize),
     Shown(Option<(u64, u8, u64)>),
@@ -32,14 +32,5 @@ pub fn ask<M: Memory>(memory: &mut M, request: Request) -> Response
         Request::Lock(a, version, holder) => Response::Done(memory.lock(a, version, holder)),
         Request::Put(a, version, value) => Response::Done(memory.put(a, version, value)),
         Request::Free(a, holder) => Response::Done(memory.free(a, holder)),
-    }
-}
-
-impl Response {
-    // The two responses are one.
-    pub(crate) fn is_same(self, other: Response) -> bool
-        ensures { Decides result (self ≡ other) }
-    {
-        self == other
     }
 }

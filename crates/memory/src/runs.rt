@@ -7,6 +7,7 @@ use crate::request::{Request, Response, ask};
 use std::alloc::{AllocError, Global};
 
 // Makes the requests in order and gives the responses, or makes none of them where there is no room for the responses.
+#[tactic(auto, using(crate::proofs::Requests::running))]
 pub fn run<M: Memory>(
     heap: Global,
     memory: &mut M,
@@ -16,9 +17,10 @@ pub fn run<M: Memory>(
     ensures after { let ws = M.words memory.old in M.words memory.new ≡ (if is_ok result then words_after_all ws requests.now else ws) }
     ensures laws { IfOk result (λ rs. Laws (M.words memory.old) requests.now rs.items (M.words memory.new)) }
 {
-    let mut given = vec![in heap; Response::Done(false); requests.len()]?;
-    for (k, request) in requests.iter().enumerate() {
-        given[k] = ask(memory, *request);
+    let mut given = Vec::with_capacity(heap, requests.len())?;
+    for request in requests {
+        let response = ask(memory, *request);
+        given.push_reserved(response);
     }
     Ok(given)
 }
@@ -29,10 +31,11 @@ fn ask_both<A: Memory, B: Memory>(one: &mut A, other: &mut B, request: Request) 
     ensures one { A.Memory.words one.new ≡ words_after (A.Memory.words one.old) request }
     ensures other { B.Memory.words other.new ≡ words_after (B.Memory.words other.old) request }
 {
-    ask(one, request).is_same(ask(other, request))
+    ask(one, request) == ask(other, request)
 }
 
 // Makes the requests of two memories, and says whether all responses are alike.
+#[tactic(auto, using(crate::proofs::Requests::running))]
 pub fn alike<A: Memory, B: Memory>(one: &mut A, other: &mut B, requests: &[Request]) -> bool
     ensures { Compared (A.Memory.words one.old) (B.Memory.words other.old) requests.now result (A.Memory.words one.new) (B.Memory.words other.new) }
 {

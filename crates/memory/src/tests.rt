@@ -48,6 +48,17 @@ fn each_make_follows_rules(rt: HostRuntime) -> Result<(), Fail> {
 }
 
 #[test]
+fn pairs_nest(rt: HostRuntime) -> Result<(), Fail> {
+    let Ok(pair) = Joined::new(Cells::new(rt.alloc(), 1)?, Packed::new(rt.alloc(), 1)?) else {
+        return Err(Fail::new("no pair"));
+    };
+    let Ok(mut joined) = Joined::new(pair, Cells::new(rt.alloc(), 1)?) else {
+        return Err(Fail::new("no pair of a pair"));
+    };
+    follows_rules(&rt, rt.alloc(), &mut joined)
+}
+
+#[test]
 fn bytes_are_big_endian(rt: HostRuntime) -> Result<(), Fail> {
     let mut memory = Packed::new(rt.alloc(), 1)?;
     assert!(rt; memory.put(0, 258, 772));

@@ -1,12 +1,13 @@
 // The numbers and the name that are printed of a call.
-ghost use Rattle.std.specs.Prelude.{◌≡◌, [], ◌∷◌};
+ghost use Rattle.std.specs.Prelude.{◌≡◌, Some};
 ghost use Rattle.playback.specs.Names.{name_of};
-ghost use Rattle.protocol.specs.Call.{numbers, outcome_number, refusal_number};
+ghost use Rattle.playback.specs.Rows.{Shows, text};
 
-use protocol::call::{Answer, Call, Outcome, Refusal};
+use protocol::call::{Answer, Call, Refusal};
+use std::fmt;
 
 // An answer as it is printed: the refusal's number or 0, two numbers, and the outcome's number.
-#[derive(Clone, Copy)]
+#[derive(Clone, Copy, Debug, Default, PartialEq, Eq)]
 pub struct Row {
     pub refusal: u8,
     pub first: u64,
@@ -14,50 +15,34 @@ pub struct Row {
     pub outcome: u8,
 }
 
-fn outcome_number(outcome: Outcome) -> u8
-    ensures { result ≡ outcome_number outcome }
-{
-    match outcome {
-        Outcome::Going => 0,
-        Outcome::Committed => 1,
-        Outcome::Aborted => 2,
+impl From<Result<Answer, Refusal>> for Row {
+    ghost from_gives = { Shows };
+
+    fn from(answer: Result<Answer, Refusal>) -> Row {
+        match answer {
+            Ok(given) => Row {
+                refusal: 0,
+                first: given.first,
+                second: given.second,
+                outcome: given.outcome.into(),
+            },
+            Err(refusal) => Row {
+                refusal: refusal.into(),
+                ..Row::default()
+            },
+        }
     }
 }
 
-fn refusal_number(refusal: Refusal) -> u8
-    ensures { result ≡ refusal_number refusal }
-{
-    match refusal {
-        Refusal::BadPlan => 1,
-        Refusal::BadTables => 2,
-        Refusal::NoCoordinator => 3,
-        Refusal::NoMachine => 4,
-        Refusal::WrongPhase => 5,
-        Refusal::NoAddress => 6,
-        Refusal::TooMany => 7,
-        Refusal::NotRead => 8,
-        Refusal::UsedUp => 9,
-        Refusal::NoRoom => 10,
-        Refusal::Nothing => 11,
-    }
-}
+impl fmt::Display for Row {
+    ghost output = { λ row. Some (text row) };
 
-pub fn row_of(answer: Result<Answer, Refusal>) -> Row
-    ensures { result.refusal ∷ result.first ∷ result.second ∷ result.outcome ∷ [] ≡ numbers answer }
-{
-    match answer {
-        Ok(given) => Row {
-            refusal: 0,
-            first: given.first,
-            second: given.second,
-            outcome: outcome_number(given.outcome),
-        },
-        Err(refusal) => Row {
-            refusal: refusal_number(refusal),
-            first: 0,
-            second: 0,
-            outcome: 0,
-        },
+    fn fmt<W: fmt::Write>(&self, f: &mut fmt::Formatter<W>) -> fmt::Result {
+        let refusal = self.refusal;
+        let first = self.first;
+        let second = self.second;
+        let outcome = self.outcome;
+        write!(f, "{refusal} {first} {second} {outcome}")
     }
 }
 

@@ -1,13 +1,13 @@
 -- Every call keeps the lines in the logs: their words are there, their versions have one after them, and no two have one address.
 use Rattle.std.proofs.Common.{ℕ, ◌<◌, Bool, true, false, cond, ◌≢◌, List, [], ◌∷◌, subst}
-use Rattle.std.specs.List.{AllByRecursion}
+use Rattle.std.specs.List.{AllByRecursion, filter}
 use Rattle.std.proofs.ByRecursion.{All-push}
 use Rattle.protocol.specs.declared.plan.Plan.{Plan}
 use Rattle.protocol.specs.declared.record.Line.{Line}
 use Rattle.protocol.specs.declared.record.Kind.{Kind}
 use Rattle.protocol.specs.declared.record.Kind.TheVariants.{Lock, CommitBackup, CommitPrimary, Abort, Truncate}
 use Rattle.protocol.specs.declared.call.Call.{Call}
-use Rattle.protocol.specs.Lists.{filter, upd}
+use Rattle.protocol.specs.Lists.{upd}
 use Rattle.protocol.specs.Record.{Note, Log, append}
 use Rattle.protocol.specs.Coordinator.{Coordinator, log}
 use Rattle.protocol.specs.State.{Local}

@@ -1,14 +1,15 @@
 -- Lists of machines: what they have, and that they rise.
 use Rattle.std.proofs.Common.{◌≡◌, ℕ, zero, suc, ◌+◌, ◌<◌, ◌≤◌, Bool, true, false, cond, not, ◌||◌, eqb, ◌≢◌, List, [], ◌∷◌, sym, refl, ap, ◌∙◌, ⊎_elim, arith}
+use Rattle.std.specs.List.{filter, list_all}
 use Rattle.std.proofs.lemmas.Bool.{and_parts, cases_eq, eq-eqb, ne_eqb}
-use Rattle.protocol.specs.Lists.{counting, filter, all_by, is_member, without}
+use Rattle.protocol.specs.Lists.{counting, is_member, without}
 use Rattle.protocol.specs.Kept.{Rising}
 
 -- a test that all counted numbers pass, one of them passes
-pub counted-passes : (test : ℕ → Bool) (i n m : ℕ) → i ≤ m → m < i + n → all_by test (counting i n) ≡ true → test m ≡ true
+pub counted-passes : (test : ℕ → Bool) (i n m : ℕ) → i ≤ m → m < i + n → list_all test (counting i n) ≡ true → test m ≡ true
 counted-passes test i zero m l u e = absurd (omega arith)
 counted-passes test i (suc n) m l u e =
-    let both = and_parts (test i) (all_by test (counting (suc i) n)) e in
+    let both = and_parts (test i) (list_all test (counting (suc i) n)) e in
     ⊎_elim (λ q. ap test q ∙ both.0) (λ q. counted-passes test (suc i) n m (omega arith) (omega arith) both.1) (cases_eq m i)
 
 pub member-first : (m : ℕ) (ms : List ℕ) → is_member m (m ∷ ms) ≡ true

@@ -1,6 +1,6 @@
 -- Every call leaves each memory with the plan's words, at versions below 2^60.
 use Rattle.std.proofs.Common.{ℕ, suc, ◌+◌, ◌^◌, ◌<◌, Bool, true, false, cond, eqb, List, [], ◌∷◌, length, set, Some, Option, sym, ap, ◌∙◌, subst, ⊎_elim}
-use Rattle.std.specs.List.{AllByRecursion}
+use Rattle.std.specs.List.{AllByRecursion, find}
 use Rattle.std.proofs.lemmas.List.{length-set, set_past, get_or-set_same, get_or-set_other}
 use Rattle.std.proofs.lemmas.Bool.{cases_eq, cases_lt}
 use Rattle.memory.specs.declared.word.Word.{Word}
@@ -9,7 +9,6 @@ use Rattle.protocol.specs.declared.plan.Plan.{Plan}
 use Rattle.protocol.specs.declared.record.Line.{Line}
 use Rattle.protocol.specs.declared.record.Kind.TheVariants.{CommitBackup}
 use Rattle.protocol.specs.declared.call.Call.{Call}
-use Rattle.protocol.specs.Lists.{find}
 use Rattle.protocol.specs.Plan.{home_of}
 use Rattle.protocol.specs.Lines.{Words, hold, put, lock_lines, install_lines, held_lines, free_lines, is_newer, renew, Backups, backups, back_up}
 use Rattle.protocol.specs.Record.{Note, kind_eq}

@@ -1,5 +1,6 @@
 -- Every accepted call is one of these 25 moves, each with what its checks found: what all calls keep is proved by one case for each move.
 use Rattle.std.proofs.Common.{◌≡◌, ℕ, suc, ◌-◌, ◌^◌, ◌<◌, Bool, true, false, cond, not, ◌||◌, eqb, ◌≢◌, ◌⊎◌, List, [], ◌∷◌, length, Some, None, Ok, Option, refl, inl, inr}
+use Rattle.std.specs.List.{push, list_all}
 use Rattle.std.proofs.lemmas.Bool.{ltb-true, eqb-false, not-true, false≢true}
 use Rattle.protocol.specs.declared.record.Line.{Line}
 use Rattle.protocol.specs.declared.record.Kind.{Kind}
@@ -10,7 +11,7 @@ use Rattle.protocol.specs.declared.call.Call.{Call}
 use Rattle.protocol.specs.declared.call.Call.TheVariants.{Open, Read, Write, Abandon, Commit, Send, Poll, Take, Check, Trim}
 use Rattle.protocol.specs.declared.call.Outcome.{Outcome}
 use Rattle.protocol.specs.declared.call.Outcome.TheVariants.{Going, Committed, Aborted}
-use Rattle.protocol.specs.Lists.{snoc, all_by, without}
+use Rattle.protocol.specs.Lists.{without}
 use Rattle.protocol.specs.Plan.{size}
 use Rattle.protocol.specs.Lines.{line, is_current, lock_lines, install_lines, held_lines, free_lines}
 use Rattle.protocol.specs.Record.{Note, number_of, records, is_untrimmed}
@@ -60,7 +61,7 @@ pub data Move (p : Plan) (x : Local) : Call → Accepted → Type 0 where
       → line_at a x.own.writes ≡ Some w → Move p x (Write c a v) (leaves 0 0 Going (with_writes x (rewrite x.own.writes r.address v)))
   writes-new : {c a v : ℕ} (r : Line) → x.own.phase ≡ Opened → a < size p → line_at a x.own.reads ≡ Some r → r.version ≢ 2 ^ 60 - 1
       → line_at a x.own.writes ≡ None → length x.own.writes < 4
-      → Move p x (Write c a v) (leaves 0 0 Going (with_writes x (snoc x.own.writes (line r.address r.version v))))
+      → Move p x (Write c a v) (leaves 0 0 Going (with_writes x (push x.own.writes (line r.address r.version v))))
   abandons : {c : ℕ} → x.own.phase ≡ Opened → Move p x (Abandon c) (leaves 0 0 Aborted (in_phase x Idle))
   -- Commit.
   commits : {c : ℕ} → x.own.phase ≡ Opened → x.own.next < 2 ^ 64 → is_roomy p (begin p x.own) ≡ true
@@ -75,11 +76,11 @@ pub data Move (p : Plan) (x : Local) : Call → Accepted → Type 0 where
   sends-abort : {c : ℕ} (m : ℕ) (ms : List ℕ) → x.own.phase ≡ Aborting (m ∷ ms)
       → Move p x (Send c) (leaves m (number_of Abort) Going (writes_record p c x Abort m (after_abort ms)))
   -- Poll, by the kind of the next record; a LOCK takes all its lines or none.
-  locks : {c m : ℕ} (r : Note) (rest : List Note) → Next p x m Lock r rest → all_by (is_current x.primaries) r.lines ≡ true
+  locks : {c m : ℕ} (r : Note) (rest : List Note) → Next p x m Lock r rest → list_all (is_current x.primaries) r.lines ≡ true
       → Move p x (Poll c m)
       (leaves (number_of Lock) (length r.lines) Going
       (with_primaries (with_own x (with_reply (pass_over x.own m r rest) m (reply r.number true))) (lock_lines x.primaries (suc c) r.lines)))
-  denies : {c m : ℕ} (r : Note) (rest : List Note) → Next p x m Lock r rest → all_by (is_current x.primaries) r.lines ≡ false
+  denies : {c m : ℕ} (r : Note) (rest : List Note) → Next p x m Lock r rest → list_all (is_current x.primaries) r.lines ≡ false
       → Move p x (Poll c m) (leaves (number_of Lock) 0 Going (with_own x (with_reply (pass_over x.own m r rest) m (reply r.number false))))
   keeps-backup : {c m : ℕ} (r : Note) (rest : List Note) → Next p x m CommitBackup r rest
       → Move p x (Poll c m) (leaves (number_of CommitBackup) 0 Going (polled_over x m r rest))
@@ -175,7 +176,7 @@ module _ (p : Plan) (x : Local) where
   send-moves c (Aborting []) e = refused
   send-moves c (Aborting (m ∷ ms)) e = accepted (sends-abort m ms e)
 
-  lock-moves : (c m : ℕ) (r : Note) (rest : List Note) (b : Bool) → Next p x m Lock r rest → all_by (is_current x.primaries) r.lines ≡ b
+  lock-moves : (c m : ℕ) (r : Note) (rest : List Note) (b : Bool) → Next p x m Lock r rest → list_all (is_current x.primaries) r.lines ≡ b
       → Holds (Move p x (Poll c m)) (poll_lock c x m r rest b)
   unfolding poll_lock
   lock-moves c m r rest true n h = accepted (locks r rest n h)

@@ -1,6 +1,6 @@
 -- What the invariant gives to the calls: a place for each record and reply that is written, and lines whose words are there.
 use Rattle.std.proofs.Common.{◌≡◌, ℕ, ◌+◌, ◌/◌, ◌<◌, ◌≤◌, Bool, true, false, cond, not, ◌||◌, eqb, List, [], ◌∷◌, length, refl, ap, subst, arith}
-use Rattle.std.specs.List.{AllByRecursion}
+use Rattle.std.specs.List.{AllByRecursion, filter}
 use Rattle.std.proofs.lemmas.List.{nil_from_length}
 use Rattle.std.proofs.ByRecursion.{All-weaker}
 use Rattle.std.proofs.lemmas.Bool.{or_right}
@@ -9,7 +9,7 @@ use Rattle.protocol.specs.declared.record.Line.{Line}
 use Rattle.protocol.specs.declared.record.Kind.{Kind}
 use Rattle.protocol.specs.declared.record.Kind.TheVariants.{Lock, CommitBackup, CommitPrimary, Abort, Truncate}
 use Rattle.protocol.specs.declared.record.Reply.{Reply}
-use Rattle.protocol.specs.Lists.{filter, is_member}
+use Rattle.protocol.specs.Lists.{is_member}
 use Rattle.protocol.specs.Record.{Note, records, kind_eq, is_untrimmed}
 use Rattle.protocol.specs.Coordinator.{Coordinator, Phase, Idle, Opened, Locking, Checking, Backing, Installing, Aborting, log, queue}
 use Rattle.protocol.specs.Room.{one_if, to_write, primary_lines, backup_lines, primary_machines, backup_machines, is_at_primary, is_at_backup}

@@ -1,12 +1,12 @@
 -- A memory's lock, put and free change the word where the protocol makes them: none is refused.
 use Rattle.std.proofs.Common.{◌≡◌, ℕ, ◌+◌, ◌^◌, ◌<◌, true, cond, ◌&&◌, eqb, ltb, ◌≢◌, List, [], ◌∷◌, length, set, sym, refl, ap, ◌∙◌, arith}
+use Rattle.std.specs.List.{list_all}
 use Rattle.std.proofs.lemmas.List.{get_or-set_other}
 use Rattle.std.proofs.lemmas.Bool.{and_from, lt-ltb, cond-true}
 use Rattle.memory.specs.declared.word.Word.{Word}
 use Rattle.memory.specs.Words.{word, at, blank, held_by, locked, put_to, freed}
 use Rattle.protocol.specs.declared.plan.Plan.{Plan}
 use Rattle.protocol.specs.declared.record.Line.{Line}
-use Rattle.protocol.specs.Lists.{all_by}
 use Rattle.protocol.specs.Plan.{size}
 use Rattle.protocol.specs.Lines.{Words, is_current, hold, put, held_lines}
 use Rattle.protocol.specs.Kept.{ProperWords, Fits, Absent}
@@ -38,10 +38,10 @@ module _ (ws : Words) (a : ℕ) (w : Word) where
   same_at : (b : ℕ) → a ≢ b → at (set ws a w) b ≡ at ws b
   same_at b d = get_or-set_other ws a b w blank (λ e. d (sym e))
 
-  pub still-current : (ls : List Line) → Absent a ls → all_by (is_current (set ws a w)) ls ≡ all_by (is_current ws) ls
+  pub still-current : (ls : List Line) → Absent a ls → list_all (is_current (set ws a w)) ls ≡ list_all (is_current ws) ls
   still-current [] h = refl
   still-current (l ∷ ls) h =
-      ap (λ (v : Word). (eqb v.holder 0 && eqb v.version l.version) && all_by (is_current (set ws a w)) ls) (same_at l.address h.0)
+      ap (λ (v : Word). (eqb v.holder 0 && eqb v.version l.version) && list_all (is_current (set ws a w)) ls) (same_at l.address h.0)
       ∙ ap (λ t. is_current ws l && t) (still-current ls h.1)
 
   pub still_held : (holder : ℕ) (ls : List Line) → Absent a ls → held_lines (set ws a w) holder ls ≡ held_lines ws holder ls

@@ -1,5 +1,6 @@
 -- Every call keeps the count of the replies on their way.
 use Rattle.std.proofs.Common.{◌≡◌, ℕ, ◌+◌, ◌<◌, Bool, true, false, cond, not, ◌||◌, List, [], ◌∷◌, length, refl, ap, ◌∙◌, subst, arith}
+use Rattle.std.specs.List.{push}
 use Rattle.std.proofs.lemmas.List.{length-append}
 use Rattle.protocol.specs.declared.plan.Plan.{Plan}
 use Rattle.protocol.specs.declared.record.Line.{Line}
@@ -7,7 +8,7 @@ use Rattle.protocol.specs.declared.record.Kind.{Kind}
 use Rattle.protocol.specs.declared.record.Kind.TheVariants.{Lock}
 use Rattle.protocol.specs.declared.record.Reply.{Reply}
 use Rattle.protocol.specs.declared.call.Call.{Call}
-use Rattle.protocol.specs.Lists.{is_member, snoc, upd, without}
+use Rattle.protocol.specs.Lists.{is_member, upd, without}
 use Rattle.protocol.specs.Record.{Note, Log, append, kind_eq}
 use Rattle.protocol.specs.Coordinator.{Coordinator, Phase, Idle, Opened, Locking, Checking, Backing, Installing, Aborting}
 use Rattle.protocol.specs.Room.{one_if}
@@ -36,9 +37,9 @@ one_more false r rs = omega arith
 pub to_reply-first : (r : Note) (rs : List Note) → length (to_reply (r ∷ rs)) ≡ one_if (kind_eq r.kind Lock) + length (to_reply rs)
 to_reply-first r rs = one_more (kind_eq r.kind Lock) r (to_reply rs)
 
-to_reply-snoc : (rs : List Note) (r : Note) → length (to_reply (snoc rs r)) ≡ length (to_reply rs) + one_if (kind_eq r.kind Lock)
-to_reply-snoc [] r = omega (arith, to_reply-first r [])
-to_reply-snoc (s ∷ rs) r = omega (arith, to_reply-first s (snoc rs r), to_reply-first s rs, to_reply-snoc rs r)
+to_reply-push : (rs : List Note) (r : Note) → length (to_reply (push rs r)) ≡ length (to_reply rs) + one_if (kind_eq r.kind Lock)
+to_reply-push [] r = omega (arith, to_reply-first r [])
+to_reply-push (s ∷ rs) r = omega (arith, to_reply-first s (push rs r), to_reply-first s rs, to_reply-push rs r)
 
 module _ (p : Plan) (logs : ℕ → Log) (queues : ℕ → List Reply) where
   -- one log changes, and not the LOCKs to be replied to in it
@@ -49,7 +50,7 @@ module _ (p : Plan) (logs : ℕ → Log) (queues : ℕ → List Reply) where
       (λ i d b. t i b)
 
   told-written : (phase : Phase) (m : ℕ) (r : Note) → kind_eq r.kind Lock ≡ false → Told p phase logs queues → Told p phase (upd logs m (append (logs m) r)) queues
-  told-written phase m r k t = told-silent phase m (append (logs m) r) (omega (arith, to_reply-snoc (logs m).waiting r, ap one_if k)) t
+  told-written phase m r k t = told-silent phase m (append (logs m) r) (omega (arith, to_reply-push (logs m).waiting r, ap one_if k)) t
 
   -- the next record is polled, and is no LOCK
   told-passed : (phase : Phase) (m : ℕ) (r : Note) (rest before : List Note) → (logs m).waiting ≡ r ∷ rest → kind_eq r.kind Lock ≡ false
@@ -63,12 +64,12 @@ module _ (p : Plan) (logs : ℕ → Log) (queues : ℕ → List Reply) where
       → Told p (Locking (m ∷ ms) awaited denied) logs queues → Told p (Locking ms awaited denied) (upd logs m (append (logs m) r)) queues
   told-lock m ms awaited denied r once k t =
       upd-each (λ i (h : Log). i < p.machines → way h (queues i) + one_if (is_member i ms) ≡ one_if (is_member i awaited)) logs m (append (logs m) r)
-      (λ b. omega (arith, t m b, to_reply-snoc (logs m).waiting r, ap one_if k, ap one_if once, ap one_if (member-first m ms)))
+      (λ b. omega (arith, t m b, to_reply-push (logs m).waiting r, ap one_if k, ap one_if once, ap one_if (member-first m ms)))
       (λ i d b. omega (arith, t i b, ap one_if (member-later i m ms d)))
 
   -- a LOCK is polled: its reply is now in the queue
   told-answered : (phase : Phase) (m : ℕ) (r : Note) (rest before : List Note) (y : Reply) → (logs m).waiting ≡ r ∷ rest → kind_eq r.kind Lock ≡ true
-      → Told p phase logs queues → Told p phase (upd logs m (record { polled = before; waiting = rest })) (upd queues m (snoc (queues m) y))
+      → Told p phase logs queues → Told p phase (upd logs m (record { polled = before; waiting = rest })) (upd queues m (push (queues m) y))
   told-answered phase m r rest before y next k t =
       let was : length (to_reply (logs m).waiting) ≡ length (to_reply (r ∷ rest)) = ap (λ (ns : List Note). length (to_reply ns)) next in
       upd-both (λ i (h : Log) (q : List Reply). i < p.machines → way h q + locks_due phase i ≡ replies_awaited phase i) logs queues m _ _
@@ -134,7 +135,7 @@ module _ (p : Plan) (x : Local) (inv : Invariant p x.own) where
     passed before k = told-passed p own.logs own.queues own.phase m r rest before n.waiting (is-kind r sort n.kind ∙ k) inv.replies
 
     answered : (before : List Note) (y : Reply) → kind_eq sort Lock ≡ true
-        → Told p own.phase (upd own.logs m (record { polled = before; waiting = rest })) (upd own.queues m (snoc (own.queues m) y))
+        → Told p own.phase (upd own.logs m (record { polled = before; waiting = rest })) (upd own.queues m (push (own.queues m) y))
     answered before y k = told-answered p own.logs own.queues own.phase m r rest before y n.waiting (is-kind r sort n.kind ∙ k) inv.replies
 
   module _ {m : ℕ} {due awaited : List ℕ} {denied : Bool} {r : Reply} {rs : List Reply} (h : Replied p x m due awaited denied r rs) where

@@ -1,12 +1,13 @@
 -- Every call keeps the room in the logs.
 use Rattle.std.proofs.Common.{◌≡◌, ℕ, ◌+◌, ◌<◌, ◌≤◌, Bool, true, false, not, ◌||◌, eqb, ◌≢◌, ◌⊎◌, List, [], ◌∷◌, ◌++◌, reverse, length, sym, refl, ap, ◌∙◌, subst, ⊎_elim, arith}
+use Rattle.std.specs.List.{push}
 use Rattle.std.proofs.lemmas.List.{append_assoc, length-append, reverse-append}
 use Rattle.std.proofs.lemmas.Bool.{both_ways, cases_eq, leb-true, ne_eqb}
 use Rattle.protocol.specs.declared.plan.Plan.{Plan}
 use Rattle.protocol.specs.declared.record.Line.{Line}
 use Rattle.protocol.specs.declared.record.Kind.TheVariants.{Truncate}
 use Rattle.protocol.specs.declared.call.Call.{Call}
-use Rattle.protocol.specs.Lists.{is_member, snoc, upd}
+use Rattle.protocol.specs.Lists.{is_member, upd}
 use Rattle.protocol.specs.Lines.{line}
 use Rattle.protocol.specs.Record.{Note, Log, records, append, kind_eq, is_untrimmed}
 use Rattle.protocol.specs.Coordinator.{Coordinator, Phase, Idle, Opened, Locking, Checking, Backing, Aborting, log}
@@ -46,24 +47,24 @@ cost-fewer n n' rs l = ⊎_elim
     more d = ⊎_elim (λ z. absurd (d (omega arith))) (λ z. omega arith) (cases_eq n 0)
 
 -- one record more, and one fewer to write
-cost-sent : (n n' : ℕ) (rs : List Note) (r : Note) → n' + 1 ≤ n → cost n' (snoc rs r) ≤ cost n rs
+cost-sent : (n n' : ℕ) (rs : List Note) (r : Note) → n' + 1 ≤ n → cost n' (push rs r) ≤ cost n rs
 cost-sent n n' rs r l =
-    omega (arith, length-append rs (r ∷ []), one_at_most (not (eqb n' 0) || is_untrimmed (snoc rs r)), some_one n (is_untrimmed rs) (omega arith))
+    omega (arith, length-append rs (r ∷ []), one_at_most (not (eqb n' 0) || is_untrimmed (push rs r)), some_one n (is_untrimmed rs) (omega arith))
 
 -- a TRUNCATE takes the place that was kept for it
-untrimmed-snoc : (rs : List Note) (r : Note) → is_untrimmed (snoc rs r) ≡ not (kind_eq r.kind Truncate)
-untrimmed-snoc [] r = refl
-untrimmed-snoc (s ∷ []) r = refl
-untrimmed-snoc (s ∷ t ∷ rs) r = untrimmed-snoc (t ∷ rs) r
+untrimmed-push : (rs : List Note) (r : Note) → is_untrimmed (push rs r) ≡ not (kind_eq r.kind Truncate)
+untrimmed-push [] r = refl
+untrimmed-push (s ∷ []) r = refl
+untrimmed-push (s ∷ t ∷ rs) r = untrimmed-push (t ∷ rs) r
 
 trim-wanted : (n : ℕ) (rs : List Note) → n ≡ 0 → is_untrimmed rs ≡ true → one_if (not (eqb n 0) || is_untrimmed rs) ≡ 1
 trim-wanted n rs z u = ap (λ j. one_if (not (eqb j 0) || is_untrimmed rs)) z ∙ ap one_if u
 
-trim-behind : (n : ℕ) (rs : List Note) (r : Note) → n ≡ 0 → r.kind ≡ Truncate → one_if (not (eqb n 0) || is_untrimmed (snoc rs r)) ≡ 0
+trim-behind : (n : ℕ) (rs : List Note) (r : Note) → n ≡ 0 → r.kind ≡ Truncate → one_if (not (eqb n 0) || is_untrimmed (push rs r)) ≡ 0
 trim-behind n rs r z k =
-    ap (λ j. one_if (not (eqb j 0) || is_untrimmed (snoc rs r))) z ∙ ap one_if (untrimmed-snoc rs r) ∙ ap (λ j. one_if (not (kind_eq j Truncate))) k
+    ap (λ j. one_if (not (eqb j 0) || is_untrimmed (push rs r))) z ∙ ap one_if (untrimmed-push rs r) ∙ ap (λ j. one_if (not (kind_eq j Truncate))) k
 
-cost-trimmed : (n : ℕ) (rs : List Note) (r : Note) → n ≡ 0 → is_untrimmed rs ≡ true → r.kind ≡ Truncate → cost n (snoc rs r) ≤ cost n rs
+cost-trimmed : (n : ℕ) (rs : List Note) (r : Note) → n ≡ 0 → is_untrimmed rs ≡ true → r.kind ≡ Truncate → cost n (push rs r) ≤ cost n rs
 cost-trimmed n rs r z u k = omega (arith, length-append rs (r ∷ []), trim-wanted n rs z u, trim-behind n rs r z k)
 
 -- fewer records, and no TRUNCATE wanted where none was, cost no more
@@ -116,10 +117,10 @@ module _ (p : Plan) (todo todo' : ℕ → ℕ) (logs : ℕ → Log) (room : Room
         (λ b. omega (arith, room m b))
         (λ i d b. omega (arith, room i b, cost-fewer (todo i) (todo' i) (records (logs i)) (there i d)))
 
-    appended : (r : Note) → cost (todo' m) (snoc (records (logs m)) r) ≤ cost (todo m) (records (logs m)) → ((i : ℕ) → i ≢ m → todo' i ≤ todo i)
+    appended : (r : Note) → cost (todo' m) (push (records (logs m)) r) ≤ cost (todo m) (records (logs m)) → ((i : ℕ) → i ≢ m → todo' i ≤ todo i)
         → Room p todo' (upd logs m (append (logs m) r))
     appended r here there =
-        let same : records (append (logs m) r) ≡ snoc (records (logs m)) r = sym (append_assoc (reverse (logs m).polled) (logs m).waiting (r ∷ [])) in
+        let same : records (append (logs m) r) ≡ push (records (logs m)) r = sym (append_assoc (reverse (logs m).polled) (logs m).waiting (r ∷ [])) in
         changed (append (logs m) r) (subst (λ (rs : List Note). cost (todo' m) rs ≤ cost (todo m) (records (logs m))) (sym same) here) there
 
     room-sent : (r : Note) → todo' m + 1 ≤ todo m → ((i : ℕ) → i ≢ m → todo' i ≤ todo i) → Room p todo' (upd logs m (append (logs m) r))
@@ -210,7 +211,7 @@ module _ (p : Plan) (x : Local) (inv : Invariant p x.own) where
   room-kept (reads-again r e s f) = inv.room
   room-kept (reads-new e s f l) = inv.room
   room-kept (writes_again {v = v} r w e s f u h) = room-none p own inv _ (λ i. ap (λ (ph : Phase). to_write p (rewrite own.writes r.address v) ph i) e)
-  room-kept (writes-new {v = v} r e s f u h l) = room-none p own inv _ (λ i. ap (λ (ph : Phase). to_write p (snoc own.writes (line r.address r.version v)) ph i) e)
+  room-kept (writes-new {v = v} r e s f u h l) = room-none p own inv _ (λ i. ap (λ (ph : Phase). to_write p (push own.writes (line r.address r.version v)) ph i) e)
   room-kept (abandons e) = room-none p own inv _ (λ i. refl)
   room-kept (commits e l r) = room-found p (begin p own) r
   room-kept (sends-lock {c = c} m ms n d e) = room_next p own inv m ms _ (Locking ms n d) _ e refl (λ h. omega arith) (λ i h. omega arith)

@@ -1,23 +1,23 @@
 -- Loops over a list by its index: all pass a test, or the first that passes it.
 use Rattle.std.proofs.Common.{◌≡◌, ℕ, zero, suc, ◌+◌, ◌<◌, Bool, true, false, cond, List, [], ◌∷◌, length, get_or, take, Some, None, Option, sym, refl, ◌∙◌, add-one, arith}
+use Rattle.std.specs.List.{list_all, find}
 use Rattle.std.proofs.lemmas.Bool.{and_parts, and_from, and_left, and_right}
-use Rattle.protocol.specs.Lists.{all_by, find}
 
 module _ {X : Type 0} (p : X → Bool) where
-  all-suc : (xs : List X) (i : ℕ) (d : X) → i < length xs → all_by p (take i xs) ≡ true → p (get_or xs i d) ≡ true → all_by p (take (suc i) xs) ≡ true
+  all-suc : (xs : List X) (i : ℕ) (d : X) → i < length xs → list_all p (take i xs) ≡ true → p (get_or xs i d) ≡ true → list_all p (take (suc i) xs) ≡ true
   all-suc [] i d h before here = absurd (omega arith)
   all-suc (x ∷ xs) zero d h before here = and_from (p x) true here refl
   all-suc (x ∷ xs) (suc i) d h before here =
-      let parts = and_parts (p x) (all_by p (take i xs)) before in
-      and_from (p x) (all_by p (take (suc i) xs)) parts.0 (all-suc xs i d (omega arith) parts.1 here)
+      let parts = and_parts (p x) (list_all p (take i xs)) before in
+      and_from (p x) (list_all p (take (suc i) xs)) parts.0 (all-suc xs i d (omega arith) parts.1 here)
 
-  pub all_more : (xs : List X) (i : ℕ) (d : X) → i < length xs → all_by p (take i xs) ≡ true → p (get_or xs i d) ≡ true → all_by p (take (i + 1) xs) ≡ true
+  pub all_more : (xs : List X) (i : ℕ) (d : X) → i < length xs → list_all p (take i xs) ≡ true → p (get_or xs i d) ≡ true → list_all p (take (i + 1) xs) ≡ true
   all_more xs i d h before here = rw add-one (all-suc xs i d h before here)
 
-  pub all-fails : (xs : List X) (i : ℕ) (d : X) → i < length xs → p (get_or xs i d) ≡ false → all_by p xs ≡ false
+  pub all-fails : (xs : List X) (i : ℕ) (d : X) → i < length xs → p (get_or xs i d) ≡ false → list_all p xs ≡ false
   all-fails [] i d h here = absurd (omega arith)
-  all-fails (x ∷ xs) zero d h here = and_left (p x) (all_by p xs) here
-  all-fails (x ∷ xs) (suc i) d h here = and_right (p x) (all_by p xs) (all-fails xs i d (omega arith) here)
+  all-fails (x ∷ xs) zero d h here = and_left (p x) (list_all p xs) here
+  all-fails (x ∷ xs) (suc i) d h here = and_right (p x) (list_all p xs) (all-fails xs i d (omega arith) here)
 
 nothing-there : {X : Type 0} {y : X} {P : Type 0} → None ≡ Some y → P
 nothing-there {X} {y} e = let z : ◌≡◌ {A = ℕ} 0 1 = cc in absurd (omega arith)

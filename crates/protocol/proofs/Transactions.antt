@@ -1,13 +1,12 @@
 -- Every call keeps the words read and written by a transaction: few, there, no address twice, and the written ones read before.
 use Rattle.std.proofs.Common.{◌≡◌, ℕ, ◌+◌, ◌-◌, ◌^◌, ◌<◌, ◌≤◌, Bool, true, false, cond, eqb, ◌≢◌, ◌⊎◌, List, [], ◌∷◌, length, Some, None, Option, sym, refl, ap, ◌∙◌, subst, inl, inr, ⊎_elim, arith}
-use Rattle.std.specs.List.{AllByRecursion}
+use Rattle.std.specs.List.{AllByRecursion, push}
 use Rattle.std.proofs.lemmas.List.{length-append}
 use Rattle.std.proofs.ByRecursion.{All-push, All-weaker}
 use Rattle.std.proofs.lemmas.Bool.{eqb-true, eqb-false}
 use Rattle.protocol.specs.declared.plan.Plan.{Plan}
 use Rattle.protocol.specs.declared.record.Line.{Line}
 use Rattle.protocol.specs.declared.call.Call.{Call}
-use Rattle.protocol.specs.Lists.{snoc}
 use Rattle.protocol.specs.Plan.{size}
 use Rattle.protocol.specs.Lines.{line}
 use Rattle.protocol.specs.Coordinator.{Coordinator, line_at}
@@ -47,13 +46,13 @@ same-found true x y rest more e f = e
 same-found false x y rest more e f = f e
 
 -- it is still found with one more line behind
-pub line-at-snoc : (a : ℕ) (ls : List Line) (l r : Line) → line_at a ls ≡ Some r → line_at a (snoc ls l) ≡ Some r
-line-at-snoc a [] l r e = absurd (none-there e)
-line-at-snoc a (k ∷ ls) l r e = same-found (eqb k.address a) k r (line_at a ls) (line_at a (snoc ls l)) e (line-at-snoc a ls l r)
+pub line_at-push : (a : ℕ) (ls : List Line) (l r : Line) → line_at a ls ≡ Some r → line_at a (push ls l) ≡ Some r
+line_at-push a [] l r e = absurd (none-there e)
+line_at-push a (k ∷ ls) l r e = same-found (eqb k.address a) k r (line_at a ls) (line_at a (push ls l)) e (line_at-push a ls l r)
 
-pub apart_snoc : (ls : List Line) (l : Line) → Apart ls → AllByRecursion (λ (k : Line). k.address ≢ l.address) ls → Apart (snoc ls l)
-apart_snoc [] l h n = (tt, tt)
-apart_snoc (k ∷ ls) l h n = (All-push (λ (j : Line). k.address ≢ j.address) ls l h.0 n.0, apart_snoc ls l h.1 n.1)
+pub Apart-push : (ls : List Line) (l : Line) → Apart ls → AllByRecursion (λ (k : Line). k.address ≢ l.address) ls → Apart (push ls l)
+Apart-push [] l h n = (tt, tt)
+Apart-push (k ∷ ls) l h n = (All-push (λ (j : Line). k.address ≢ j.address) ls l h.0 n.0, Apart-push ls l h.1 n.1)
 
 -- Rewriting a value leaves addresses and versions.
 pub length-rewrite : (ls : List Line) (a v : ℕ) → length (rewrite ls a v) ≡ length ls
@@ -88,17 +87,17 @@ none_yet p =
     record { reads_few = omega arith; reads_fit = tt; reads_apart = tt; writes_few = omega arith; writes_fit = record { fit = tt; apart = tt }; writes_read = tt }
 
 module _ (p : Plan) (rs ws : List Line) (t : Transaction p rs ws) where
-  more-read : (l : Line) → WasRead p l → line_at l.address rs ≡ None → length rs < 8 → Transaction p (snoc rs l) ws
+  more-read : (l : Line) → WasRead p l → line_at l.address rs ≡ None → length rs < 8 → Transaction p (push rs l) ws
   more-read l fits new few = record {
     reads_few = omega (arith, length-append rs (l ∷ []));
     reads_fit = All-push (WasRead p) rs l t.reads_fit fits;
-    reads_apart = apart_snoc rs l t.reads_apart (line-at-none l.address rs new);
+    reads_apart = Apart-push rs l t.reads_apart (line-at-none l.address rs new);
     writes_few = t.writes_few;
     writes_fit = t.writes_fit;
     writes_read = All-weaker
         (λ (w : Line). Found rs w.address w.version)
-        (λ (w : Line). Found (snoc rs l) w.address w.version)
-        (λ w h. (h.0, line-at-snoc w.address rs l h.0 h.1, h.2))
+        (λ (w : Line). Found (push rs l) w.address w.version)
+        (λ w h. (h.0, line_at-push w.address rs l h.0 h.1, h.2))
         ws
         t.writes_read;
   }
@@ -117,7 +116,7 @@ module _ (p : Plan) (rs ws : List Line) (t : Transaction p rs ws) where
   }
 
   more-written : (a v : ℕ) (r : Line) → line_at a rs ≡ Some r → r.version ≢ 2 ^ 60 - 1 → line_at a ws ≡ None → length ws < 4
-      → Transaction p rs (snoc ws (line r.address r.version v))
+      → Transaction p rs (push ws (line r.address r.version v))
   more-written a v r read last new few =
       let there = line-at-some (WasRead p) a rs r read t.reads_fit in
       let l = line r.address r.version v in
@@ -129,7 +128,7 @@ module _ (p : Plan) (rs ws : List Line) (t : Transaction p rs ws) where
         reads_fit = t.reads_fit;
         reads_apart = t.reads_apart;
         writes_few = omega (arith, length-append ws (l ∷ []));
-        writes_fit = record { fit = All-push (Fits p) ws l t.writes_fit.fit fits; apart = apart_snoc ws l t.writes_fit.apart absent };
+        writes_fit = record { fit = All-push (Fits p) ws l t.writes_fit.fit fits; apart = Apart-push ws l t.writes_fit.apart absent };
         writes_read = All-push (λ (w : Line). Found rs w.address w.version) ws l t.writes_read (r, found, refl);
       }
 

@@ -1,12 +1,12 @@
 -- What open, read, write and abandon answer on each way through their checks.
 use Rattle.std.proofs.Common.{◌≡◌, ℕ, ◌-◌, ◌^◌, ◌<◌, ◌≤◌, true, false, not, [], length, Some, None, Err, Option, ap, ◌∙◌}
+use Rattle.std.specs.List.{push}
 use Rattle.std.proofs.lemmas.Bool.{lt-ltb, le-ltb, eq-eqb, ne_eqb}
 use Rattle.protocol.specs.declared.plan.Plan.{Plan}
 use Rattle.protocol.specs.declared.record.Line.{Line}
 use Rattle.protocol.specs.declared.call.Call.TheVariants.{Open, Read, Write, Abandon}
 use Rattle.protocol.specs.declared.call.Refusal.TheVariants.{WrongPhase, NoAddress, TooMany, NotRead, UsedUp}
 use Rattle.protocol.specs.declared.call.Outcome.TheVariants.{Going, Aborted}
-use Rattle.protocol.specs.Lists.{snoc}
 use Rattle.protocol.specs.Plan.{size}
 use Rattle.protocol.specs.Lines.{line}
 use Rattle.protocol.specs.Coordinator.{Idle, Opened, is_idle, is_opened, line_at, with_phase, with_words}
@@ -103,6 +103,6 @@ module _ (p : Plan) (x : Local) (c : ℕ) where
                 write-full l = write-from None new ∙ stops TooMany _ _ (le-ltb _ _ l)
 
                 pub writes-new : length x.own.writes < 4
-                    → local_call p x (Write c a v) ≡ accept 0 0 Going (with_writes x (snoc x.own.writes (line r.address r.version v)))
+                    → local_call p x (Write c a v) ≡ accept 0 0 Going (with_writes x (push x.own.writes (line r.address r.version v)))
                 unfolding write_word
                 writes-new l = write-from None new ∙ passes TooMany _ _ (lt-ltb _ _ l)

@@ -1,5 +1,6 @@
 -- Commit, send, take and check.
 use Rattle.std.specs.Prelude.{ℕ, suc, pred, ◌^◌, Bool, true, false, cond, not, ◌||◌, List, [], ◌∷◌, is_some, Err, nat_lt}
+use Rattle.std.specs.List.{filter}
 use Rattle.protocol.specs.declared.record.Line.{Line}
 use Rattle.protocol.specs.declared.record.Kind.{Kind}
 use Rattle.protocol.specs.declared.record.Kind.TheVariants.{Lock, CommitBackup, CommitPrimary, Abort, Truncate}
@@ -8,7 +9,7 @@ use Rattle.protocol.specs.declared.plan.Plan.{Plan}
 use Rattle.protocol.specs.declared.call.Refusal.TheVariants.{NoMachine, WrongPhase, UsedUp, NoRoom, Nothing}
 use Rattle.protocol.specs.declared.call.Outcome.{Outcome}
 use Rattle.protocol.specs.declared.call.Outcome.TheVariants.{Going, Committed, Aborted}
-use Rattle.protocol.specs.Lists.{filter, without}
+use Rattle.protocol.specs.Lists.{without}
 use Rattle.protocol.specs.Try.{Try, ◌>>◌, unless}
 use Rattle.protocol.specs.Lines.{is_current}
 use Rattle.protocol.specs.Record.{Note, number_of}

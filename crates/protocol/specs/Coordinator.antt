@@ -1,9 +1,10 @@
 -- A coordinator: its phase, its transaction, its logs and its reply queues.
 use Rattle.std.specs.Prelude.{ℕ, Bool, true, false, List, [], Option, ◌==◌}
+use Rattle.std.specs.List.{find}
 use Rattle.protocol.specs.declared.record.Line.{Line}
 use Rattle.protocol.specs.declared.record.Reply.{Reply}
 use Rattle.protocol.specs.declared.plan.Plan.{Plan}
-use Rattle.protocol.specs.Lists.{find, upd}
+use Rattle.protocol.specs.Lists.{upd}
 use Rattle.protocol.specs.Record.{Note, Log, empty_log, append}
 
 pub data Phase : Type 0 where

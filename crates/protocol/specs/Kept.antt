@@ -1,12 +1,12 @@
 -- The protocol's invariant: what every call keeps of a coordinator.
 use Rattle.std.specs.Prelude.{◌≡◌, ℕ, suc, ◌+◌, ◌^◌, ◌<◌, ◌≤◌, true, ◌≢◌, List, [], ◌∷◌, length, Some, Ok}
-use Rattle.std.specs.List.{AllByRecursion}
+use Rattle.std.specs.List.{AllByRecursion, filter}
 use Rattle.memory.specs.Words.{at}
 use Rattle.protocol.specs.declared.plan.Plan.{Plan}
 use Rattle.protocol.specs.declared.record.Line.{Line}
 use Rattle.protocol.specs.declared.record.Kind.TheVariants.{Lock}
 use Rattle.protocol.specs.declared.call.Call.{Call}
-use Rattle.protocol.specs.Lists.{filter, is_member}
+use Rattle.protocol.specs.Lists.{is_member}
 use Rattle.protocol.specs.Plan.{is_fine, size}
 use Rattle.protocol.specs.Lines.{Words}
 use Rattle.protocol.specs.Record.{Note, records, kind_eq}

@@ -2,6 +2,7 @@ pub mod Lists
 pub mod Try
 pub mod Plan
 pub mod Lines
+pub mod LineVec
 pub mod Record
 pub mod Coordinator
 pub mod Room

@@ -1,9 +1,9 @@
 -- What the lines of a record do to the words of a memory.
 use Rattle.std.specs.Prelude.{ℕ, ◌+◌, Bool, true, false, cond, ◌&&◌, List, [], ◌∷◌, ◌==◌, nat_lt, slice_set}
+use Rattle.std.specs.List.{filter}
 use Rattle.memory.specs.declared.word.Word.{Word}
 use Rattle.memory.specs.Words.{word, at, held_by}
 use Rattle.protocol.specs.declared.record.Line.{Line}
-use Rattle.protocol.specs.Lists.{filter}
 
 abbrev pub Words : Type 0
 Words = List Word

@@ -1,6 +1,7 @@
 -- Which plans are accepted, and where a plan puts an address.
 use Rattle.std.specs.Prelude.{ℕ, ◌*◌, ◌/◌, ◌^◌, Bool, not, ◌&&◌, List, take, ◌==◌, nat_le, nat_lt, slice_index_or}
-use Rattle.protocol.specs.Lists.{all_by, counting}
+use Rattle.std.specs.List.{list_all}
+use Rattle.protocol.specs.Lists.{counting}
 use Rattle.protocol.specs.declared.plan.Plan.{Plan}
 use Rattle.protocol.specs.declared.plan.Home.{Home}
 
@@ -34,4 +35,4 @@ has_fine_sizes p =
     is_within 3 5 p.machines && is_within 1 4 p.coordinators && is_within 1 8 p.regions && is_within 4 16 p.capacity && nat_lt p.start (2 ^ 60)
 
 unfoldable pub is_fine : Plan → Bool
-is_fine p = has_fine_sizes p && all_by (is_fine_home p.machines) (homes_of p)
+is_fine p = has_fine_sizes p && list_all (is_fine_home p.machines) (homes_of p)

@@ -1,5 +1,6 @@
 -- Poll and trim.
 use Rattle.std.specs.Prelude.{ℕ, suc, Bool, true, false, cond, ◌&&◌, ◌||◌, List, [], ◌∷◌, length, Some, None, Err, Option, ◌==◌, nat_lt}
+use Rattle.std.specs.List.{list_all, find, push}
 use Rattle.protocol.specs.declared.record.Line.{Line}
 use Rattle.protocol.specs.declared.record.Kind.{Kind}
 use Rattle.protocol.specs.declared.record.Kind.TheVariants.{Lock, CommitBackup, CommitPrimary, Abort, Truncate}
@@ -7,7 +8,6 @@ use Rattle.protocol.specs.declared.record.Reply.{Reply}
 use Rattle.protocol.specs.declared.plan.Plan.{Plan}
 use Rattle.protocol.specs.declared.call.Refusal.TheVariants.{NoMachine, WrongPhase, Nothing}
 use Rattle.protocol.specs.declared.call.Outcome.TheVariants.{Going}
-use Rattle.protocol.specs.Lists.{all_by, find, snoc}
 use Rattle.protocol.specs.Try.{Try, ◌>>◌, unless}
 use Rattle.protocol.specs.Plan.{home_of}
 use Rattle.protocol.specs.Lines.{is_current, lock_lines, install_lines, held_lines, free_lines, Backups, backups, back_up}
@@ -54,7 +54,7 @@ abbrev pub reply : ℕ → Bool → Reply
 reply n yes' = record { number = n; yes = yes' }
 
 abbrev pub with_reply : Coordinator → ℕ → Reply → Coordinator
-with_reply k m y = with_queue k m (snoc (queue k m) y)
+with_reply k m y = with_queue k m (push (queue k m) y)
 
 -- a LOCK takes all its lines or none, and queues a reply; coordinator c locks as holder c + 1
 unfoldable pub poll_lock : ℕ → Local → ℕ → Note → List Note → Bool → Try Accepted
@@ -76,7 +76,7 @@ abbrev pub dropped : Local → ℕ → List Note → Local
 dropped x m rest = with_own x (with_log x.own m (record { polled = []; waiting = rest }))
 
 unfoldable pub poll_record : Plan → ℕ → Local → ℕ → Kind → Note → List Note → Try Accepted
-poll_record p c x m Lock r rest = poll_lock c x m r rest (all_by (is_current x.primaries) r.lines)
+poll_record p c x m Lock r rest = poll_lock c x m r rest (list_all (is_current x.primaries) r.lines)
 poll_record p c x m CommitBackup r rest = accept (number_of CommitBackup) 0 Going (polled_over x m r rest)
 poll_record p c x m CommitPrimary r rest =
     let ls = own_lines x m r in

@@ -1,9 +1,10 @@
 -- The records of a log, as the protocol speaks of them.
-use Rattle.std.specs.Prelude.{ℕ, Bool, false, not, List, [], ◌∷◌, ◌++◌, reverse, take, ◌==◌}
+use Rattle.std.specs.Prelude.{ℕ, Bool, false, not, List, [], ◌∷◌, ◌++◌, reverse, ◌==◌}
 use Rattle.protocol.specs.declared.record.Line.{Line}
 use Rattle.protocol.specs.declared.record.Kind.{Kind}
 use Rattle.protocol.specs.declared.record.Kind.TheVariants.{Lock, CommitBackup, CommitPrimary, Abort, Truncate}
 use Rattle.protocol.specs.declared.record.Record as program
+use Rattle.protocol.specs.LineVec.{listed}
 
 -- the number of each kind
 abbrev pub number_of : Kind → ℕ
@@ -16,7 +17,7 @@ number_of Truncate = 5
 abbrev pub kind_eq : Kind → Kind → Bool
 kind_eq j k = number_of j == number_of k
 
--- a record without the places that its array of lines leaves over;
+-- a record with its lines as a list;
 -- `regions` has bit r set for each region that the transaction writes; it and the lines are of LOCK and COMMIT-BACKUP alone
 pub record Note : Type 0 where
   pub kind : Kind
@@ -26,7 +27,7 @@ pub record Note : Type 0 where
   pub lines : List Line
 
 abbrev pub note : program.Record → Note
-note r = record { kind = r.kind; coordinator = r.coordinator; number = r.number; regions = r.regions; lines = take r.count r.lines }
+note r = record { kind = r.kind; coordinator = r.coordinator; number = r.number; regions = r.regions; lines = listed r.lines }
 
 -- a log: the polled records, the newest first, and those not yet polled, the next first
 pub record Log : Type 0 where

@@ -1,6 +1,7 @@
 -- Which lines go to which machine, and the places kept in a log for what a commit has yet to write.
 use Rattle.std.specs.Prelude.{ℕ, ◌+◌, ◌/◌, ◌^◌, Bool, true, false, not, ◌||◌, List, [], ◌∷◌, length, ◌==◌, bit_or, nat_le}
-use Rattle.protocol.specs.Lists.{is_empty, filter, all_by, is_member}
+use Rattle.std.specs.List.{filter, list_all}
+use Rattle.protocol.specs.Lists.{is_empty, is_member}
 use Rattle.protocol.specs.declared.record.Line.{Line}
 use Rattle.protocol.specs.declared.plan.Plan.{Plan}
 use Rattle.protocol.specs.Plan.{home_of, machine_list}
@@ -63,4 +64,4 @@ kept p k m = with_trim (to_write p k.writes k.phase m) (records (log k m))
 
 -- in every log of the coordinator, records and kept places are no more than there are places
 abbrev pub is_roomy : Plan → Coordinator → Bool
-is_roomy p k = all_by (λ m. nat_le (length (records (log k m)) + kept p k m) p.capacity) (machine_list p)
+is_roomy p k = list_all (λ m. nat_le (length (records (log k m)) + kept p k m) p.capacity) (machine_list p)

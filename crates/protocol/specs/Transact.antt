@@ -1,11 +1,11 @@
 -- Open, read, write and abandon.
 use Rattle.std.specs.Prelude.{ℕ, ◌-◌, ◌^◌, cond, not, List, [], map, length, Some, None, Option, ◌==◌, nat_lt}
+use Rattle.std.specs.List.{push}
 use Rattle.memory.specs.Words.{at}
 use Rattle.protocol.specs.declared.record.Line.{Line}
 use Rattle.protocol.specs.declared.plan.Plan.{Plan}
 use Rattle.protocol.specs.declared.call.Refusal.TheVariants.{WrongPhase, NoAddress, TooMany, NotRead, UsedUp}
 use Rattle.protocol.specs.declared.call.Outcome.TheVariants.{Going, Aborted}
-use Rattle.protocol.specs.Lists.{snoc}
 use Rattle.protocol.specs.Try.{Try, ◌>>=◌, ◌>>◌, unless, else_refuse}
 use Rattle.protocol.specs.Plan.{size}
 use Rattle.protocol.specs.Lines.{Words, line}
@@ -28,7 +28,7 @@ value_of r None = r.value
 value_of r (Some w) = w.value
 
 abbrev pub with_read : Local → Line → Local
-with_read x r = with_own x (with_words x.own (snoc x.own.reads r) x.own.writes)
+with_read x r = with_own x (with_words x.own (push x.own.reads r) x.own.writes)
 
 -- a word read before answers its recorded version; a new one is looked up in the primary memory and recorded, at most eight
 unfoldable pub read_word : Local → ℕ → Option Line → Try Accepted
@@ -58,7 +58,7 @@ unfoldable pub write_word : Local → Line → ℕ → Option Line → Try Accep
 write_word x r v (Some w) = accept 0 0 Going (with_writes x (rewrite x.own.writes r.address v))
 write_word x r v None = do
   unless TooMany (nat_lt (length x.own.writes) 4)
-  accept 0 0 Going (with_writes x (snoc x.own.writes (line r.address r.version v)))
+  accept 0 0 Going (with_writes x (push x.own.writes (line r.address r.version v)))
 
 -- a word at the last version has none to go on to
 abbrev pub write_call : Plan → Local → ℕ → ℕ → Try Accepted

@@ -1,7 +1,7 @@
 // The ten calls and what they answer.
 
 // A coordinator first, then a machine or an address, then a value.
-#[derive(Clone, Copy)]
+#[derive(Clone, Copy, Debug, PartialEq, Eq)]
 pub enum Call {
     Open(u8),
     Read(u8, u16),
@@ -16,14 +16,14 @@ pub enum Call {
 }
 
 // Whether a call reports the end of its transaction.
-#[derive(Clone, Copy)]
+#[derive(Clone, Copy, Debug, PartialEq, Eq)]
 pub enum Outcome {
-    Going,
-    Committed,
-    Aborted,
+    Going = 0,
+    Committed = 1,
+    Aborted = 2,
 }
 
-#[derive(Clone, Copy)]
+#[derive(Clone, Copy, Debug, PartialEq, Eq)]
 pub struct Answer {
     pub first: u64,
     pub second: u64,
@@ -31,17 +31,17 @@ pub struct Answer {
 }
 
 // Why a call was turned back.
-#[derive(Clone, Copy)]
+#[derive(Clone, Copy, Debug, PartialEq, Eq)]
 pub enum Refusal {
-    BadPlan,
-    BadTables,
-    NoCoordinator,
-    NoMachine,
-    WrongPhase,
-    NoAddress,
-    TooMany,
-    NotRead,
-    UsedUp,
-    NoRoom,
-    Nothing,
+    BadPlan = 1,
+    BadTables = 2,
+    NoCoordinator = 3,
+    NoMachine = 4,
+    WrongPhase = 5,
+    NoAddress = 6,
+    TooMany = 7,
+    NotRead = 8,
+    UsedUp = 9,
+    NoRoom = 10,
+    Nothing = 11,
 }

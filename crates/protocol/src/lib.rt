@@ -3,6 +3,8 @@
 
 pub mod call;
 pub mod invariant;
+pub mod lines;
+pub mod numbers;
 pub mod plan;
 pub mod record;
 pub mod worked;

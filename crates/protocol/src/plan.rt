@@ -2,7 +2,7 @@
 ghost use Rattle.std.specs.Prelude.{◌≡◌, length};
 
 // The machines with a region's primary, first and second backup copy.
-#[derive(Clone, Copy)]
+#[derive(Clone, Copy, Debug, Default, PartialEq, Eq)]
 pub struct Home {
     pub primary: u8,
     pub first: u8,
@@ -11,7 +11,7 @@ pub struct Home {
 
 // `capacity` is the number of places in a log; `start` the version of every word at set-up; `first` the number of each
 // coordinator's first transaction. The first `regions` homes count.
-#[derive(Clone, Copy)]
+#[derive(Clone, Copy, Debug, PartialEq, Eq)]
 pub struct Plan {
     pub machines: u8,
     pub coordinators: u8,

@@ -6,26 +6,17 @@ ghost use Rattle.ring.specs.Queue.{after, takes, takes_all, queue, served_all, P
 use crate::Ring;
 
 // One entry more behind the last, or the first entries out.
-#[derive(Clone, Copy)]
+#[derive(Clone, Copy, Debug, PartialEq, Eq)]
 pub enum Operation<T> {
     Append(T),
     DropFront(usize),
 }
 
 // The ring after the operations, and how many of them it refused.
-#[derive(Clone, Copy)]
+#[derive(Clone, Copy, Debug, PartialEq, Eq)]
 pub struct Replayed {
     pub ring: Ring,
     pub refused: usize,
-}
-
-// An empty ring over these slots.
-fn start<T>(slots: &[T]) -> Ring
-    ensures is { result ≡ empty_ring }
-    ensures holds { contents result slots.now ≡ [] }
-    ensures stands { 0 < length slots.now → Sound result (length slots.now) }
-{
-    Ring::new()
 }
 
 // Makes one operation, or answers false where the ring refuses it.
@@ -45,13 +36,14 @@ fn apply<T: Copy>(ring: &mut Ring, slots: &mut [T], operation: Operation<T>) -> 
 // Makes the operations in their order on an empty ring over the slots. With at least one slot, the ring holds and refuses
 // what a queue of that size does; where a plain queue would never be over that size, and would always have what is
 // dropped, the ring refuses nothing and shows at every place what the plain queue has there. Without a slot it refuses all.
+#[tactic(auto, using(crate::proofs::Queues::starts_sound, crate::proofs::Rotated::contents_empty))]
 pub fn replay<T: Copy>(slots: &mut [T], operations: &[Operation<T>]) -> Replayed
     ensures stands { 0 < length slots.old → Sound result.ring (length slots.new) }
     ensures served { 0 < length slots.old → queue (contents result.ring slots.new) result.refused ≡ served_all (length slots.old) operations.now }
     ensures plain { 0 < length slots.old → takes_all (length slots.old) [] operations.now ≡ true → Plain operations.now result.ring slots.new result.refused }
     ensures none { length slots.old ≡ 0 → (result.ring ≡ empty_ring) × (result.refused ≡ length operations.now) }
 {
-    let mut ring = start(slots);
+    let mut ring = Ring::new();
     let mut refused = 0;
     for operation in operations {
         if !apply(&mut ring, slots, *operation) {

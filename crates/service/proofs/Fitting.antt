@@ -6,10 +6,14 @@ use Rattle.protocol.specs.declared.call.Refusal.{Refusal}
 use Rattle.protocol.specs.declared.call.Refusal.TheVariants.{BadPlan, BadTables}
 use Rattle.protocol.specs.Try.{◌>>◌, unless}
 use Rattle.protocol.specs.Plan.{is_fine, size}
+use Rattle.protocol.specs.Lines.{Words}
 use Rattle.protocol.specs.Step.{set_up}
+use Rattle.protocol.proofs.Checks.{stops}
 use Rattle.directory.specs.View.{World, is_fitting}
 use Rattle.directory.specs.Calls.{SetsUp}
-use Rattle.service.specs.Making.{has_fitting_memories}
+use Rattle.service.specs.declared.make.Unmade.{Unmade}
+use Rattle.service.specs.declared.make.Unmade.TheVariants.{Refused, NoMemory}
+use Rattle.service.specs.Making.{has_fitting_memories, MakesTables, Caused}
 
 both : (a b : Bool) → a ≡ true → (a && b) ≡ b
 both a b e = ap (λ (t : Bool). t && b) e
@@ -50,3 +54,8 @@ module _ (p : Plan) (was after : World) (long : Long p was) where
 
   pub is-set_up : (k : ℕ) → SetsUp p was after (Ok k) → set_up p asks ≡ Ok (size p)
   is-set_up k s = sym told ∙ sym s.answers ∙ ap Ok (accepted-size (is_fine p) (is_fitting p was) k s.answers)
+
+-- tables that were not made: the plan is refused, or there was no memory
+pub caused : (p : Plan) (a b d : Words) (cause : Unmade) → MakesTables p (Err cause) → Caused p a b d cause
+caused p a b d (Refused n) h = stops BadPlan _ _ h.0 ∙ ap Err (sym h.1)
+caused p a b d (NoMemory e) h = h

@@ -6,4 +6,4 @@ use Rattle.service.specs.declared.owner.Directory.{Directory}
 
 -- given the words that each memory means
 abbrev pub owned : {P F S : Type 0} → (P → Words) → (F → Words) → (S → Words) → Directory P F S → World
-owned p f s d = world (vec_items d.coordinators) (vec_items d.records) (vec_items d.replies) (p d.primaries) (f d.firsts) (s d.seconds)
+owned p f s d = world (vec_items d.tables.coordinators) (vec_items d.tables.records) (vec_items d.tables.replies) (p d.primaries) (f d.firsts) (s d.seconds)

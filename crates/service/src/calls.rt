@@ -17,9 +17,9 @@ impl<P: Memory, F: Memory, S: Memory> Directory<P, F, S> {
     {
         transact::open(
             &self.plan,
-            &mut self.coordinators,
-            &self.records,
-            &self.replies,
+            &mut self.tables.coordinators,
+            &self.tables.records,
+            &self.tables.replies,
             &self.primaries,
             &self.firsts,
             &self.seconds,
@@ -34,9 +34,9 @@ impl<P: Memory, F: Memory, S: Memory> Directory<P, F, S> {
     {
         transact::read(
             &self.plan,
-            &mut self.coordinators,
-            &self.records,
-            &self.replies,
+            &mut self.tables.coordinators,
+            &self.tables.records,
+            &self.tables.replies,
             &self.primaries,
             &self.firsts,
             &self.seconds,
@@ -52,9 +52,9 @@ impl<P: Memory, F: Memory, S: Memory> Directory<P, F, S> {
     {
         transact::write(
             &self.plan,
-            &mut self.coordinators,
-            &self.records,
-            &self.replies,
+            &mut self.tables.coordinators,
+            &self.tables.records,
+            &self.tables.replies,
             &self.primaries,
             &self.firsts,
             &self.seconds,
@@ -71,9 +71,9 @@ impl<P: Memory, F: Memory, S: Memory> Directory<P, F, S> {
     {
         transact::abandon(
             &self.plan,
-            &mut self.coordinators,
-            &self.records,
-            &self.replies,
+            &mut self.tables.coordinators,
+            &self.tables.records,
+            &self.tables.replies,
             &self.primaries,
             &self.firsts,
             &self.seconds,
@@ -88,9 +88,9 @@ impl<P: Memory, F: Memory, S: Memory> Directory<P, F, S> {
     {
         commit::commit(
             &self.plan,
-            &mut self.coordinators,
-            &self.records,
-            &self.replies,
+            &mut self.tables.coordinators,
+            &self.tables.records,
+            &self.tables.replies,
             &self.primaries,
             &self.firsts,
             &self.seconds,
@@ -105,9 +105,9 @@ impl<P: Memory, F: Memory, S: Memory> Directory<P, F, S> {
     {
         send::send(
             &self.plan,
-            &mut self.coordinators,
-            &mut self.records,
-            &self.replies,
+            &mut self.tables.coordinators,
+            &mut self.tables.records,
+            &self.tables.replies,
             &self.primaries,
             &self.firsts,
             &self.seconds,
@@ -122,9 +122,9 @@ impl<P: Memory, F: Memory, S: Memory> Directory<P, F, S> {
     {
         poll::poll(
             &self.plan,
-            &mut self.coordinators,
-            &self.records,
-            &mut self.replies,
+            &mut self.tables.coordinators,
+            &self.tables.records,
+            &mut self.tables.replies,
             &mut self.primaries,
             &mut self.firsts,
             &mut self.seconds,
@@ -140,9 +140,9 @@ impl<P: Memory, F: Memory, S: Memory> Directory<P, F, S> {
     {
         take::take(
             &self.plan,
-            &mut self.coordinators,
-            &self.records,
-            &self.replies,
+            &mut self.tables.coordinators,
+            &self.tables.records,
+            &self.tables.replies,
             &self.primaries,
             &self.firsts,
             &self.seconds,
@@ -158,9 +158,9 @@ impl<P: Memory, F: Memory, S: Memory> Directory<P, F, S> {
     {
         check::check(
             &self.plan,
-            &mut self.coordinators,
-            &self.records,
-            &self.replies,
+            &mut self.tables.coordinators,
+            &self.tables.records,
+            &self.tables.replies,
             &self.primaries,
             &self.firsts,
             &self.seconds,
@@ -175,9 +175,9 @@ impl<P: Memory, F: Memory, S: Memory> Directory<P, F, S> {
     {
         trim::trim(
             &self.plan,
-            &mut self.coordinators,
-            &mut self.records,
-            &self.replies,
+            &mut self.tables.coordinators,
+            &mut self.tables.records,
+            &self.tables.replies,
             &self.primaries,
             &self.firsts,
             &self.seconds,

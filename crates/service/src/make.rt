@@ -1,66 +1,65 @@
 // Making a directory: its tables are made, and it is set up.
-ghost use Rattle.std.specs.Prelude.{◌≡◌, ◌*◌, true, length, IfOk};
-ghost use Rattle.protocol.specs.Plan.{is_fine};
-ghost use Rattle.service.specs.Making.{Makes, FitsTables};
+ghost use Rattle.std.specs.Prelude.{◌≡◌};
+ghost use Rattle.service.specs.declared.make.Unmade.TheVariants.{NoMemory};
+ghost use Rattle.service.specs.Making.{Makes, MakesTables, unmade};
 
-use crate::owner::Directory;
+use crate::owner::{Directory, Tables};
 use directory::checks::plan_ok;
 use directory::setup::{fresh, set_up};
-use directory::tables::Coordinator;
 use memory::interface::Memory;
+use memory::make::{MakeError, Rejected};
 use protocol::call::Refusal;
+use protocol::lines::LineVec;
 use protocol::plan::Plan;
-use protocol::record::{Kind, Line, Record, Reply};
+use protocol::record::{Kind, Record, Reply};
 use std::alloc::{AllocError, Global};
 
 // Why a directory was not made.
-#[derive(Clone, Copy)]
+#[derive(Clone, Copy, Debug, PartialEq, Eq)]
 pub enum Unmade {
     Refused(Refusal),
-    NoMemory,
+    NoMemory(AllocError),
 }
 
-// The memories are handed back with the reason.
-pub struct HandedBack<P, F, S> {
-    pub cause: Unmade,
-    pub primaries: P,
-    pub firsts: F,
-    pub seconds: S,
+// A size that no memory has is that of a bad plan.
+impl From<MakeError> for Unmade {
+    ghost from_gives = { λ error r. r ≡ unmade error };
+
+    fn from(error: MakeError) -> Unmade {
+        match error {
+            MakeError::BadSize => Unmade::Refused(Refusal::BadPlan),
+            MakeError::NoMemory(e) => Unmade::NoMemory(e),
+        }
+    }
 }
 
-#[derive(Drop)]
-struct Tables {
-    coordinators: Vec<Coordinator>,
-    records: Vec<Record>,
-    replies: Vec<Reply>,
+impl From<AllocError> for Unmade {
+    ghost from_gives = { λ e r. r ≡ NoMemory e };
+
+    fn from(e: AllocError) -> Unmade {
+        Unmade::NoMemory(e)
+    }
 }
 
-// Tables of just the entries that the plan needs.
-fn make_tables(heap: Global, plan: &Plan) -> Result<Tables, AllocError>
-    ensures { IfOk result (FitsTables plan.now) }
+// Tables of just the entries that a fine plan needs.
+fn make_tables(heap: Global, plan: &Plan) -> Result<Tables, Unmade>
+    ensures { MakesTables plan.now result }
 {
-    let line = Line {
-        address: 0,
-        version: 0,
-        value: 0,
-    };
+    if !plan_ok(plan) {
+        return Err(Unmade::Refused(Refusal::BadPlan));
+    }
     let entry = Record {
         kind: Kind::Truncate,
         coordinator: 0,
         number: 0,
         regions: 0,
-        count: 0,
-        lines: [line; 4],
-    };
-    let reply = Reply {
-        number: 0,
-        yes: false,
+        lines: LineVec::new(),
     };
     let count = plan.coordinators as usize;
     let logs = count * plan.machines as usize;
     let coordinators = vec![in heap; fresh(plan.first); count]?;
     let records = vec![in heap; entry; logs * plan.capacity as usize]?;
-    let replies = vec![in heap; reply; logs * 4]?;
+    let replies = vec![in heap; Reply::default(); logs * 4]?;
     Ok(Tables {
         coordinators,
         records,
@@ -69,65 +68,42 @@ fn make_tables(heap: Global, plan: &Plan) -> Result<Tables, AllocError>
 }
 
 impl<P: Memory, F: Memory, S: Memory> Directory<P, F, S> {
-    // A directory of the plan over these memories, set up.
+    // A directory of the plan over these memories, set up; or the reason why not, and the memories handed back.
     pub fn new(
         heap: Global,
         plan: Plan,
-        primaries: P,
-        firsts: F,
-        seconds: S,
-    ) -> Result<Directory<P, F, S>, HandedBack<P, F, S>>
+        mut primaries: P,
+        mut firsts: F,
+        mut seconds: S,
+    ) -> Result<Directory<P, F, S>, Rejected<Unmade, (P, F, S)>>
         ensures { Makes P.Memory.words F.Memory.words S.Memory.words plan primaries firsts seconds result }
     {
-        if !plan_ok(&plan) {
-            return Err(HandedBack {
-                cause: Unmade::Refused(Refusal::BadPlan),
-                primaries,
-                firsts,
-                seconds,
-            });
-        }
-        let mut primaries = primaries;
-        let mut firsts = firsts;
-        let mut seconds = seconds;
-        let Ok(
-            Tables {
-                mut coordinators,
-                records,
-                replies,
-            },
-        ) = make_tables(heap, &plan)
-        else {
-            return Err(HandedBack {
-                cause: Unmade::NoMemory,
-                primaries,
-                firsts,
-                seconds,
-            });
+        let mut tables = match make_tables(heap, &plan) {
+            Ok(tables) => tables,
+            Err(error) => return Err(Rejected {
+                error,
+                given: (primaries, firsts, seconds),
+            }),
         };
         match set_up(
             &plan,
-            &mut coordinators,
-            &records,
-            &replies,
+            &mut tables.coordinators,
+            &tables.records,
+            &tables.replies,
             &mut primaries,
             &mut firsts,
             &mut seconds,
         ) {
             Ok(_) => Ok(Directory {
                 plan,
-                coordinators,
-                records,
-                replies,
+                tables,
                 primaries,
                 firsts,
                 seconds,
             }),
-            Err(refusal) => Err(HandedBack {
-                cause: Unmade::Refused(refusal),
-                primaries,
-                firsts,
-                seconds,
+            Err(refusal) => Err(Rejected {
+                error: Unmade::Refused(refusal),
+                given: (primaries, firsts, seconds),
             }),
         }
     }

@@ -2,7 +2,10 @@
 use Rattle.std.proofs.Common.{◌≡◌, ℕ, zero, suc, ◌+◌, ◌*◌, ◌<◌, ◌≤◌, Bool, true, false, cond, not, eqb, ltb, ◌⊎◌, List, [], ◌∷◌, ◌++◌, map, length, get_or, take, drop, Some, None, Ok, Err, Option, Result, sym, refl, ap, ◌∙◌, subst, inl, inr, arith}
 use Rattle.std.specs.List.{range_with_len, flat_map, slice_get}
 use Rattle.std.specs.Option.{option_map}
-use Rattle.std.specs.Int.Digits.{number_from_digits}
+use Rattle.std.specs.Int.{from_be_bytes, bytes_high_first}
+use Rattle.std.specs.Int.Digits.{AllBelowBase}
+use Rattle.std.proofs.lemmas.Nat.{be_bytes_2, be_bytes_8, from_be_bytes-to_be_bytes_2, from_be_bytes-to_be_bytes_8}
+use mir.Syntax.{w64}
 use Rattle.std.proofs.lemmas.List.FromFn.{fill_by_all, take-map-range_with_len}
 use Rattle.std.proofs.lemmas.List.{get_or-take, get_or-append-add, length-take-le, take-append-drop, drop_more, drop_all}
 use Rattle.std.proofs.lemmas.Bool.{cases_lt, eqb-true, eq-eqb, ne_eqb, lt-ltb, le-ltb, cond-true, cond-false}
@@ -17,8 +20,7 @@ use Rattle.steps.specs.declared.fault.EntryFault.TheVariants.{WrongLength, OutOf
 use Rattle.steps.specs.Bytes.{two_at, eight_at}
 use Rattle.steps.specs.Encoding.{home_bytes, encoded_plan, encoded_call, encoded, KeepsHomes, Encodable, EncodesBack, DecodesBack}
 use Rattle.steps.specs.Entries.{blank, regions, home, homes, plan, sized, steps, is_in_order, checked, decoded}
-use Rattle.steps.specs.Writing.{big_endian}
-use Rattle.steps.proofs.Numbers.{number-big-endian, big-endian-number}
+use Rattle.steps.proofs.Numbers.{byte-at}
 use Rattle.steps.proofs.Plans.{same-plan}
 
 -- the first bytes of a list, spelled out
@@ -63,8 +65,10 @@ call-row e n k c rest p q s h kind keeps =
     ap encoded z.1 ∙ p ∙ ap (λ x. x ∷ rest) (sym kind) ∙ sym q ∙ sym (spelled n e z.0)
 
 module _ (e : List ℕ) (byte : (i : ℕ) → get_or e i 0 < 256) where
-  two : (i : ℕ) → big_endian 2 (two_at e i) ≡ get_or e i 0 ∷ get_or e (i + 1) 0 ∷ []
-  two i = big-endian-number 2 (get_or e i 0 ∷ get_or e (i + 1) 0 ∷ []) refl (byte i, (byte (i + 1), tt))
+  two : (i : ℕ) → bytes_high_first 2 (two_at e i) ≡ get_or e i 0 ∷ get_or e (i + 1) 0 ∷ []
+  two i =
+      let bytes = get_or e i 0 ∷ get_or e (i + 1) 0 ∷ [] in
+      be_bytes_2 bytes (two_at e i) refl (byte-at bytes (byte i, (byte (i + 1), tt))) refl
 
   abbrev eight_bytes : ℕ → List ℕ
   eight_bytes i =
@@ -78,10 +82,10 @@ module _ (e : List ℕ) (byte : (i : ℕ) → get_or e i 0 < 256) where
       ∷ get_or e (i + 7) 0
       ∷ []
 
-  eight : (i : ℕ) → big_endian 8 (eight_at e i) ≡ eight_bytes i
+  eight : (i : ℕ) → bytes_high_first 8 (eight_at e i) ≡ eight_bytes i
   eight i =
-      big-endian-number 8 (eight_bytes i) refl
-      (byte i, (byte (i + 1), (byte (i + 2), (byte (i + 3), (byte (i + 4), (byte (i + 5), (byte (i + 6), (byte (i + 7), tt))))))))
+      let all : AllBelowBase 256 (eight_bytes i) = (byte i, (byte (i + 1), (byte (i + 2), (byte (i + 3), (byte (i + 4), (byte (i + 5), (byte (i + 6), (byte (i + 7), tt)))))))) in
+      be_bytes_8 (eight_bytes i) (eight_at e i) refl (byte-at (eight_bytes i) all) refl
 
   -- the bytes of the regions from r on
   region-bytes : (n r : ℕ) → r + n ≡ regions e → length e ≡ 21 + 3 * regions e → flat_map home_bytes (map (home e) (range_with_len r n)) ≡ drop (21 + 3 * r) e
@@ -108,8 +112,8 @@ module _ (e : List ℕ) (byte : (i : ℕ) → get_or e i 0 < 256) where
       let behind = drop 21 e in
       let regions-there : flat_map home_bytes (take (regions e) (homes e)) ≡ behind =
       ap (flat_map home_bytes) (take-map-range_with_len (home e) 0 8 (regions e) small) ∙ region-bytes (regions e) 0 (omega arith) l in
-      ap (λ (xs : List ℕ). 0 ∷ get_or e 1 0 ∷ get_or e 2 0 ∷ get_or e 3 0 ∷ get_or e 4 0 ∷ big_endian 8 (eight_at e 5) ++ (big_endian 8 (eight_at e 13) ++ xs)) regions-there
-      ∙ ap (λ (xs : List ℕ). 0 ∷ get_or e 1 0 ∷ get_or e 2 0 ∷ get_or e 3 0 ∷ get_or e 4 0 ∷ xs ++ (big_endian 8 (eight_at e 13) ++ behind)) (eight 5)
+      ap (λ (xs : List ℕ). 0 ∷ get_or e 1 0 ∷ get_or e 2 0 ∷ get_or e 3 0 ∷ get_or e 4 0 ∷ bytes_high_first 8 (eight_at e 5) ++ (bytes_high_first 8 (eight_at e 13) ++ xs)) regions-there
+      ∙ ap (λ (xs : List ℕ). 0 ∷ get_or e 1 0 ∷ get_or e 2 0 ∷ get_or e 3 0 ∷ get_or e 4 0 ∷ xs ++ (bytes_high_first 8 (eight_at e 13) ++ behind)) (eight 5)
       ∙ ap (λ (xs : List ℕ). 0 ∷ get_or e 1 0 ∷ get_or e 2 0 ∷ get_or e 3 0 ∷ get_or e 4 0 ∷ eight_bytes 5 ++ (xs ++ behind)) (eight 13)
       ∙ ap (λ (k : ℕ). k ∷ get_or e 1 0 ∷ get_or e 2 0 ∷ get_or e 3 0 ∷ get_or e 4 0 ∷ eight_bytes 5 ++ (eight_bytes 13 ++ behind)) (sym kind)
       ∙ sym (ap (λ (xs : List ℕ). xs ++ behind) (front 21 e (omega arith)))
@@ -131,7 +135,7 @@ module _ (e : List ℕ) (byte : (i : ℕ) → get_or e i 0 < 256) where
           (
             call-row e 4 2 (Read c (two_at e 2)) (c ∷ get_or e 2 0 ∷ get_or e 3 0 ∷ []) (ap (λ (xs : List ℕ). 2 ∷ c ∷ xs) (two 2)) refl,
             (
-              call-row e 12 3 (Write c (two_at e 2) (eight_at e 4)) (c ∷ get_or e 2 0 ∷ get_or e 3 0 ∷ eight_bytes 4) (ap (λ (xs : List ℕ). 3 ∷ c ∷ xs ++ big_endian 8 (eight_at e 4)) (two 2) ∙ ap (λ (xs : List ℕ). 3 ∷ c ∷ get_or e 2 0 ∷ get_or e 3 0 ∷ xs) (eight 4)) refl,
+              call-row e 12 3 (Write c (two_at e 2) (eight_at e 4)) (c ∷ get_or e 2 0 ∷ get_or e 3 0 ∷ eight_bytes 4) (ap (λ (xs : List ℕ). 3 ∷ c ∷ xs ++ bytes_high_first 8 (eight_at e 4)) (two 2) ∙ ap (λ (xs : List ℕ). 3 ∷ c ∷ get_or e 2 0 ∷ get_or e 3 0 ∷ xs) (eight 4)) refl,
               (
                 call-row e 2 4 (Abandon c) (c ∷ []) refl refl,
                 (
@@ -155,19 +159,19 @@ module _ (e : List ℕ) (byte : (i : ℕ) → get_or e i 0 < 256) where
 
 -- a decoded step was found among the kinds
 checked-ok : (place : ℕ) (o : Option (Option Step)) (s : Step) → checked place o ≡ Ok s → o ≡ Some (Some s)
-checked-ok place None s h = let z : ◌≡◌ {A = ℕ} 0 1 = cc in absurd (omega arith)
-checked-ok place (Some None) s h = let z : ◌≡◌ {A = ℕ} 0 1 = cc in absurd (omega arith)
+checked-ok place None s h = cc
+checked-ok place (Some None) s h = cc
 checked-ok place (Some (Some t)) s h = ordered (is_in_order place t) h
   where
     ordered : (b : Bool) → ◌≡◌ {A = Result Step EntryFault} (cond b (Ok t) (Err (OutOfOrder place))) (Ok s) → ◌≡◌ {A = Option (Option Step)} (Some (Some t)) (Some (Some s))
     ordered true h = cc
-    ordered false h = let z : ◌≡◌ {A = ℕ} 0 1 = cc in absurd (omega arith)
+    ordered false h = cc
 
 decoded-ok : (place : ℕ) (e : List ℕ) (s : Step) → decoded place e ≡ Ok s → slice_get (steps e) (get_or e 0 0) ≡ Some (Some s)
 decoded-ok place e s h = held (eqb (length e) 0) h
   where
     held : (b : Bool) → ◌≡◌ {A = Result Step EntryFault} (cond b (Err (WrongLength place)) (checked place (slice_get (steps e) (get_or e 0 0)))) (Ok s) → slice_get (steps e) (get_or e 0 0) ≡ Some (Some s)
-    held true h = let z : ◌≡◌ {A = ℕ} 0 1 = cc in absurd (omega arith)
+    held true h = cc
     held false h = checked-ok place (slice_get (steps e) (get_or e 0 0)) s h
 
 pub encodes-back : (place : ℕ) (e : List ℕ) (s : Step) → ((i : ℕ) → get_or e i 0 < 256) → decoded place e ≡ Ok s → EncodesBack e s
@@ -201,14 +205,11 @@ home-there (h ∷ hs) (suc r) l =
     }
 
 same_home : (a b c : ℕ) (h : Home) → a ≡ h.primary → b ≡ h.first → c ≡ h.second → ◌≡◌ {A = Home} (record { primary = a; first = b; second = c }) h
-same_home a b c h p q r =
-    ap (λ (x : ℕ). record { primary = x; first = b; second = c }) p
-    ∙ ap (λ (x : ℕ). record { primary = h.primary; first = x; second = c }) q
-    ∙ ap (λ (x : ℕ). record { primary = h.primary; first = h.first; second = x }) r
+same_home a b c h p q r = λ i. record { primary = p i; first = q i; second = r i }
 
 module _ (p : Plan) (fits : Encodable (SetUp p)) where
   abbrev head : List ℕ
-  head = 0 ∷ p.machines ∷ p.coordinators ∷ p.regions ∷ p.capacity ∷ big_endian 8 p.start ++ big_endian 8 p.first
+  head = 0 ∷ p.machines ∷ p.coordinators ∷ p.regions ∷ p.capacity ∷ bytes_high_first 8 p.start ++ bytes_high_first 8 p.first
 
   abbrev tail : List ℕ
   tail = flat_map home_bytes (take p.regions p.homes)
@@ -240,7 +241,7 @@ module _ (p : Plan) (fits : Encodable (SetUp p)) where
   unfolding plan
   plan-back =
       same-plan p.machines p.coordinators p.regions p.capacity _ p.start _ p.first (homes (encoded_plan p)) p.homes refl p.eight
-      (number-big-endian 8 p.start fits.0) (number-big-endian 8 p.first fits.1)
+      (from_be_bytes-to_be_bytes_8 p.start fits.0) (from_be_bytes-to_be_bytes_8 p.first fits.1)
       (sym (fill_by_all (home (encoded_plan p)) p.homes 8 blank p.eight (λ k l. sym (home-back k l))))
 
   set_up-back : (place : ℕ) → eqb place 1 ≡ true → decoded place (encoded_plan p) ≡ Ok (SetUp p)
@@ -255,11 +256,11 @@ module _ (p : Plan) (fits : Encodable (SetUp p)) where
 
 call_back : (c : Call) (place : ℕ) → Encodable (ACall c) → not (eqb place 1) ≡ true → decoded place (encoded_call c) ≡ Ok (ACall c)
 call_back (Open c) place fits o = cond-true (not (eqb place 1)) _ _ o
-call_back (Read c a) place fits o = cond-true (not (eqb place 1)) _ _ o ∙ ap (λ (x : ℕ). Ok (ACall (Read c x))) (number-big-endian 2 a fits)
+call_back (Read c a) place fits o = cond-true (not (eqb place 1)) _ _ o ∙ ap (λ (x : ℕ). Ok (ACall (Read c x))) (from_be_bytes-to_be_bytes_2 a fits)
 call_back (Write c a v) place fits o =
     cond-true (not (eqb place 1)) _ _ o
-    ∙ ap (λ (x : ℕ). Ok (ACall (Write c x (number_from_digits 256 (big_endian 8 v))))) (number-big-endian 2 a fits.0)
-    ∙ ap (λ (x : ℕ). Ok (ACall (Write c a x))) (number-big-endian 8 v fits.1)
+    ∙ ap (λ (x : ℕ). Ok (ACall (Write c x (from_be_bytes w64 (bytes_high_first 8 v))))) (from_be_bytes-to_be_bytes_2 a fits.0)
+    ∙ ap (λ (x : ℕ). Ok (ACall (Write c a x))) (from_be_bytes-to_be_bytes_8 v fits.1)
 call_back (Abandon c) place fits o = cond-true (not (eqb place 1)) _ _ o
 call_back (Commit c) place fits o = cond-true (not (eqb place 1)) _ _ o
 call_back (Send c) place fits o = cond-true (not (eqb place 1)) _ _ o

@@ -3,15 +3,16 @@ use Rattle.std.proofs.Common.{◌≡◌, ℕ, zero, suc, ◌+◌, ◌<◌, ◌�
 use Rattle.steps.specs.declared.fault.FrameFault.{FrameFault}
 use Rattle.steps.specs.declared.fault.FrameFault.TheVariants.{TooLong, BadVersion, CutShort}
 use Rattle.std.specs.Int.Digits.{AllBelowBase}
+use Rattle.std.specs.Int.{bytes_high_first}
 use Rattle.std.specs.List.{flat_map}
-use Rattle.std.proofs.ByRecursion.{All-get_or}
+use Rattle.std.proofs.lemmas.Nat.{be_bytes_2}
 use Rattle.std.proofs.lemmas.List.{append-nil, append_assoc, drop_more}
-use Rattle.std.proofs.lemmas.Bool.{leb-true, ltb-true, eqb-true, and_parts, cond-true, cond-false}
+use Rattle.std.proofs.lemmas.Bool.{le-leb, lt-leb, leb-true, ltb-true, eqb-true, and_parts, cond-true, cond-false}
 use Rattle.steps.specs.Bytes.{two_at}
 use Rattle.steps.specs.Frames.{Position, at, opened, entry_at, passed, is_whole, end_of, entry}
-use Rattle.steps.specs.Writing.{big_endian, with_length, written}
+use Rattle.steps.specs.Writing.{with_length, written}
 use Rattle.steps.specs.Laws.{listed, handed, reached, Lossless}
-use Rattle.steps.proofs.Numbers.{big-endian-number}
+use Rattle.steps.proofs.Numbers.{byte-at}
 
 -- the two bytes at a place
 pub pair-at : (xs : List ℕ) (i : ℕ) → i + 2 ≤ length xs → take 2 (drop i xs) ≡ get_or xs i 0 ∷ get_or xs (i + 1) 0 ∷ []
@@ -24,14 +25,13 @@ pub one_more : (xs : List ℕ) (i : ℕ) → AllBelowBase 256 xs → i + 2 + two
 one_more xs i u h =
     let n = two_at xs i in
     let content = take n (drop (i + 2) xs) in
-    let byte : (k : ℕ) → k < length xs → get_or xs k 0 < 256 = λ k l. All-get_or (λ d. d < 256) xs k 0 l u in
     let size : length content ≡ n = simp (length-take, length-drop) (omega arith) in
-    let bytes : take 2 (drop i xs) ≡ big_endian 2 n =
-    pair-at xs i (omega arith) ∙ sym (big-endian-number 2 (get_or xs i 0 ∷ get_or xs (i + 1) 0 ∷ []) refl (byte i (omega arith), (byte (i + 1) (omega arith), tt))) in
+    let bytes : take 2 (drop i xs) ≡ bytes_high_first 2 n =
+    pair-at xs i (omega arith) ∙ sym (be_bytes_2 (get_or xs i 0 ∷ get_or xs (i + 1) 0 ∷ []) n refl (byte-at (get_or xs i 0 ∷ get_or xs (i + 1) 0 ∷ []) (byte-at xs u i, (byte-at xs u (i + 1), tt))) refl) in
     take-add (i + 2) n xs
     ∙ ap (λ ys. ys ++ content) (take-add i 2 xs)
     ∙ append_assoc (take i xs) (take 2 (drop i xs)) content
-    ∙ ap (λ ys. take i xs ++ (ys ++ content)) (bytes ∙ ap (big_endian 2) (sym size))
+    ∙ ap (λ ys. take i xs ++ (ys ++ content)) (bytes ∙ ap (bytes_high_first 2) (sym size))
 
 -- what one call does at a whole entry, and elsewhere
 pub passed-whole : (p : Position) → is_whole p ≡ true → passed p ≡ at p.file (end_of p)
@@ -51,6 +51,12 @@ pub listed-other : (p : Position) → is_whole p ≡ false → listed (entry_at 
 listed-other p t =
     ap listed (cond-false (is_whole p) (Ok (Some (entry p))) (cond (leb (length p.file) p.place) (Ok None) (Err (CutShort p.place))) t)
     ∙ none-listed p (leb (length p.file) p.place)
+
+-- nothing is read behind the last byte
+pub nothing-behind : (p : Position) → length p.file ≤ p.place → entry_at p ≡ Ok None
+nothing-behind p h =
+    cond-false (is_whole p) _ _ (lt-leb (end_of p) (length p.file) (omega (arith, h)))
+    ∙ cond-true (leb (length p.file) p.place) _ _ (le-leb (length p.file) p.place h)
 
 -- what was read before, and then the entries that `n` calls hand out
 SoFar : ℕ → Position → Type 0

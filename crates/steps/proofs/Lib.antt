@@ -4,3 +4,4 @@ pub mod Encoded
 pub mod Numbers
 pub mod Plans
 pub mod Rereading
+pub mod Unrolling

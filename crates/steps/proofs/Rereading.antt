@@ -1,15 +1,17 @@
 -- Entries that were written as a file are read back.
-use Rattle.std.proofs.Common.{◌≡◌, ℕ, ◌+◌, ◌*◌, ◌/◌, ◌%◌, ◌<◌, true, leb, List, [], ◌∷◌, ◌++◌, length, get_or, take, drop, None, Ok, sym, refl, ap, ◌∙◌, subst, arith, length-append}
+use Rattle.std.proofs.Common.{◌≡◌, ℕ, ◌+◌, ◌/◌, ◌%◌, ◌<◌, true, List, [], ◌∷◌, ◌++◌, length, get_or, take, drop, Ok, sym, refl, ap, ◌∙◌, subst, arith, length-append}
 use lib.Seq.{drop-append-add}
+use Rattle.std.specs.Int.{from_be_bytes}
 use Rattle.std.specs.List.{flat_map, AllByRecursion}
+use Rattle.std.proofs.lemmas.Nat.{from_be_bytes-to_be_bytes_2}
 use Rattle.std.proofs.lemmas.List.{append-nil, append_assoc, get_or_at, get_or-append-add, take_at}
-use Rattle.std.proofs.lemmas.Bool.{le-leb, lt-leb, cond-true, cond-false}
+use Rattle.std.proofs.lemmas.Bool.{le-leb}
 use Rattle.steps.specs.Bytes.{two_at}
+use mir.Syntax.{w16}
 use Rattle.steps.specs.Frames.{Position, at, opened, entry_at, passed, is_whole, end_of, entry}
 use Rattle.steps.specs.Writing.{with_length, written}
 use Rattle.steps.specs.Laws.{listed, handed, reached, ReadsBack}
-use Rattle.steps.proofs.Cutting.{passed-whole, listed-whole, opened-at}
-use Rattle.steps.proofs.Numbers.{number-big-endian}
+use Rattle.steps.proofs.Cutting.{passed-whole, listed-whole, nothing-behind, opened-at}
 
 -- an entry that was written behind `pre`
 module _ (pre e rest : List ℕ) (short : length e < 65536) where
@@ -21,9 +23,9 @@ module _ (pre e rest : List ℕ) (short : length e < 65536) where
       let ys = with_length e ++ rest in
       let high = get_or_at pre (length e / 256 % 256) (length e % 256 ∷ (e ++ rest)) 0 (length pre) refl in
       let low = get_or-append-add pre ys 1 0 in
-      ap (λ h. (0 * 256 + h) * 256 + get_or (pre ++ ys) (length pre + 1) 0) high
-      ∙ ap (λ l. (0 * 256 + length e / 256 % 256) * 256 + l) low
-      ∙ number-big-endian 2 (length e) short
+      ap (λ h. from_be_bytes w16 (h ∷ get_or (pre ++ ys) (length pre + 1) 0 ∷ [])) high
+      ∙ ap (λ l. from_be_bytes w16 (length e / 256 % 256 ∷ l ∷ [])) low
+      ∙ from_be_bytes-to_be_bytes_2 (length e) short
 
   end-there : end_of behind ≡ length (pre ++ with_length e)
   end-there = omega (arith, size-there, length-append pre (with_length e))
@@ -66,12 +68,6 @@ back pre (e ∷ es) h =
     (passed-whole (at file (length pre)) there ∙ ap (at file) (end-there pre e rest h.0))
     (subst (λ f. Back f (length (pre ++ with_length e)) es) (append_assoc pre (with_length e) rest) (back (pre ++ with_length e) es h.1))
 
--- nothing is read behind the last byte
-at-end : (file : List ℕ) → entry_at (at file (length file)) ≡ Ok None
-at-end file =
-    cond-false (is_whole (at file (length file))) _ _ (lt-leb (end_of (at file (length file))) (length file) (omega arith))
-    ∙ cond-true (leb (length file) (length file)) _ _ (le-leb (length file) (length file) (omega arith))
-
 pub reads-back : (bytes : List ℕ) (start : Position) → opened bytes ≡ Ok start → ReadsBack bytes start
 unfolding Back
 reads-back bytes start o es short e =
@@ -79,5 +75,5 @@ reads-back bytes start o es short e =
     let there : start ≡ at (written es) 1 = opened-at bytes start o ∙ ap (λ xs. at xs 1) e in
     record {
       same = ap (handed (length es)) there ∙ b.0;
-      ends = ap (λ p. entry_at (reached (length es) p)) there ∙ ap entry_at b.1 ∙ at-end (written es);
+      ends = ap (λ p. entry_at (reached (length es) p)) there ∙ ap entry_at b.1 ∙ nothing-behind (at (written es) (length (written es))) (omega arith);
     }

@@ -1,15 +1,16 @@
 -- Numbers of two and of eight bytes, the highest byte first.
 use Rattle.std.specs.Prelude.{ℕ, ◌+◌, List, [], ◌∷◌, slice_index}
-use Rattle.std.specs.Int.Digits.{number_from_digits}
+use Rattle.std.specs.Int.{from_be_bytes}
+use mir.Syntax.{w16, w64}
 
 -- the number in the two bytes from the byte `i` on
 abbrev pub two_at : List ℕ → ℕ → ℕ
-two_at bytes i = number_from_digits 256 (slice_index bytes i ∷ slice_index bytes (i + 1) ∷ [])
+two_at bytes i = from_be_bytes w16 (slice_index bytes i ∷ slice_index bytes (i + 1) ∷ [])
 
 -- the number in the eight bytes from the byte `i` on
 abbrev pub eight_at : List ℕ → ℕ → ℕ
 eight_at bytes i =
-    number_from_digits 256
+    from_be_bytes w64
     (slice_index bytes i
     ∷ slice_index bytes (i + 1)
     ∷ slice_index bytes (i + 2)

@@ -1,5 +1,6 @@
 -- How a step is written as an entry.
 use Rattle.std.specs.Prelude.{◌≡◌, ℕ, ◌^◌, ◌<◌, ◌≤◌, true, List, [], ◌∷◌, ◌++◌, take, Ok, slice_index_or}
+use Rattle.std.specs.Int.{bytes_high_first}
 use Rattle.std.specs.List.{flat_map}
 use Rattle.protocol.specs.declared.call.Call.{Call}
 use Rattle.protocol.specs.declared.call.Call.TheVariants.{Open, Read, Write, Abandon, Commit, Send, Poll, Take, Check, Trim}
@@ -8,7 +9,6 @@ use Rattle.protocol.specs.declared.plan.Plan.{Plan}
 use Rattle.steps.specs.declared.decode.Step.{Step}
 use Rattle.steps.specs.declared.decode.Step.TheVariants.{SetUp, Call as ACall}
 use Rattle.steps.specs.Entries.{blank, is_in_order, decoded}
-use Rattle.steps.specs.Writing.{big_endian}
 
 -- a home in three bytes
 abbrev pub home_bytes : Home → List ℕ
@@ -22,13 +22,13 @@ encoded_plan p =
     ∷ p.coordinators
     ∷ p.regions
     ∷ p.capacity
-    ∷ big_endian 8 p.start ++ (big_endian 8 p.first ++ flat_map home_bytes (take p.regions p.homes))
+    ∷ bytes_high_first 8 p.start ++ (bytes_high_first 8 p.first ++ flat_map home_bytes (take p.regions p.homes))
 
 -- each call: its kind and its fields
 abbrev pub encoded_call : Call → List ℕ
 encoded_call (Open c) = 1 ∷ c ∷ []
-encoded_call (Read c a) = 2 ∷ c ∷ big_endian 2 a
-encoded_call (Write c a v) = 3 ∷ c ∷ big_endian 2 a ++ big_endian 8 v
+encoded_call (Read c a) = 2 ∷ c ∷ bytes_high_first 2 a
+encoded_call (Write c a v) = 3 ∷ c ∷ bytes_high_first 2 a ++ bytes_high_first 8 v
 encoded_call (Abandon c) = 4 ∷ c ∷ []
 encoded_call (Commit c) = 5 ∷ c ∷ []
 encoded_call (Send c) = 6 ∷ c ∷ []

@@ -1,5 +1,5 @@
 -- The numbers of each fault: its cause, its place and its layer.
-use Rattle.std.specs.Prelude.{ℕ}
+use Rattle.std.specs.Prelude.{ℕ, List, ◌++◌, codes, decimal}
 use Rattle.protocol.specs.Call.{refusal_number}
 use Rattle.steps.specs.declared.fault.FrameFault.{FrameFault}
 use Rattle.steps.specs.declared.fault.FrameFault.TheVariants.{TooLong, BadVersion, CutShort}
@@ -36,3 +36,7 @@ entry_numbers (OutOfOrder p) = numbers 17 p 2
 abbrev pub run_numbers : RunFault → Numbers
 run_numbers (Entry f) = entry_numbers f
 run_numbers (SetUp refusal p) = numbers (refusal_number refusal) p 3
+
+-- the three numbers as they are printed
+abbrev pub text : Numbers → List ℕ
+text n = codes "fault " ++ decimal n.cause ++ codes " " ++ decimal n.place ++ codes " " ++ decimal n.layer

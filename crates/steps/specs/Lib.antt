@@ -1,5 +1,6 @@
 pub mod Bytes
 pub mod Faults
+pub mod Kinds
 pub mod Frames
 pub mod Entries
 pub mod Sequence

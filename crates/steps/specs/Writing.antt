@@ -1,17 +1,13 @@
 -- How entries are written into a step file.
-use Rattle.std.specs.Prelude.{◌≡◌, ℕ, zero, suc, ◌/◌, ◌%◌, ◌<◌, ◌≤◌, List, [], ◌∷◌, ◌++◌, length, Ok, Err, Result}
+use Rattle.std.specs.Prelude.{◌≡◌, ℕ, ◌<◌, ◌≤◌, List, ◌∷◌, ◌++◌, length, Ok, Err, Result}
+use Rattle.std.specs.Int.{bytes_high_first}
 use Rattle.std.specs.List.{flat_map}
 use Rattle.steps.specs.declared.write.WriteFault.{WriteFault}
 use Rattle.steps.specs.declared.write.WriteFault.TheVariants.{EntryTooLong, NoMemory}
 
--- a number in `w` bytes, the highest first
-abbrev pub big_endian : ℕ → ℕ → List ℕ
-big_endian zero n = []
-big_endian (suc w) n = big_endian w (n / 256) ++ n % 256 ∷ []
-
 -- an entry behind its length in two bytes
 abbrev pub with_length : List ℕ → List ℕ
-with_length e = big_endian 2 (length e) ++ e
+with_length e = bytes_high_first 2 (length e) ++ e
 
 -- a file of these entries: the version byte, then one entry after the other
 abbrev pub written : List (List ℕ) → List ℕ

@@ -4,18 +4,17 @@ ghost use Rattle.std.specs.List.{slice_get};
 ghost use Rattle.protocol.specs.declared.call.Call.TheVariants.{Read, Write};
 ghost use Rattle.steps.specs.Bytes.{eight_at};
 ghost use Rattle.steps.specs.Encoding.{EncodesBack};
+ghost use Rattle.steps.specs.Kinds.{kind_number};
 ghost use Rattle.steps.specs.Entries.{coordinator, machine, address, value, regions, home, homes, plan, sized, steps, is_in_order, decoded};
 
 use crate::fault::EntryFault;
 use crate::frame::FIRST_PLACE;
+use crate::kind::EntryKind;
 use protocol::call::Call;
 use protocol::plan::{Home, Plan};
 
-// Trim has the highest kind.
-const LAST_KIND: u8 = 10;
-
 // What an entry asks for: a directory to be set up, or a call to be made.
-#[derive(Clone, Copy)]
+#[derive(Clone, Copy, Debug, PartialEq, Eq)]
 pub enum Step {
     SetUp(Plan),
     Call(Call),
@@ -61,39 +60,18 @@ fn write(e: &[u8]) -> Option<Call>
     Some(Call::Write(*coordinator, address, value))
 }
 
-fn eight_bytes(e: &[u8], i: usize) -> u64
-    requires { i + 8 ≤ length e.now }
-    ensures { result ≡ eight_at e.now i }
-{
-    u64::from_be_bytes([
-        e[i],
-        e[i + 1],
-        e[i + 2],
-        e[i + 3],
-        e[i + 4],
-        e[i + 5],
-        e[i + 6],
-        e[i + 7],
-    ])
-}
-
 fn home_of(e: &[u8], region: usize) -> Home
     requires { 21 + 3 * regions e.now ≤ length e.now }
     ensures { result ≡ home e.now region }
 {
-    if region < e[3] as usize {
-        let i = 21 + 3 * region;
-        Home {
-            primary: e[i],
-            first: e[i + 1],
-            second: e[i + 2],
-        }
-    } else {
-        Home {
-            primary: 0,
-            first: 0,
-            second: 0,
-        }
+    if region >= e[3] as usize {
+        return Home::default();
+    }
+    let i = 21 + 3 * region;
+    Home {
+        primary: e[i],
+        first: e[i + 1],
+        second: e[i + 2],
     }
 }
 
@@ -101,26 +79,19 @@ fn homes_of(e: &[u8]) -> [Home; 8]
     requires { 21 + 3 * regions e.now ≤ length e.now }
     ensures { result ≡ homes e.now }
 {
-    [
-        home_of(e, 0),
-        home_of(e, 1),
-        home_of(e, 2),
-        home_of(e, 3),
-        home_of(e, 4),
-        home_of(e, 5),
-        home_of(e, 6),
-        home_of(e, 7),
-    ]
+    std::array::from_fn(|region| home_of(e, region))
 }
 
 // An entry that is too short to say how many regions it has is of another length, too.
 fn plan_of(e: &[u8]) -> Option<Plan>
     ensures { result ≡ sized e.now (21 + 3 * regions e.now) (plan e.now) }
 {
-    let [_, machines, coordinators, regions, capacity, ..] = e else {
+    let [_, machines, coordinators, regions, capacity, rest @ ..] = e else {
         return None;
     };
-    if e.len() != 21 + 3 * *regions as usize {
+    let (start, rest) = rest.split_first_chunk::<8>()?;
+    let (first, homes) = rest.split_first_chunk::<8>()?;
+    if homes.len() != 3 * *regions as usize {
         return None;
     }
     Some(Plan {
@@ -128,38 +99,37 @@ fn plan_of(e: &[u8]) -> Option<Plan>
         coordinators: *coordinators,
         regions: *regions,
         capacity: *capacity,
-        start: eight_bytes(e, 5),
-        first: eight_bytes(e, 13),
+        start: u64::from_be_bytes(*start),
+        first: u64::from_be_bytes(*first),
         homes: homes_of(e),
     })
 }
 
-// The step of an entry of a known kind, or none where its length is wrong.
-fn step_of(kind: u8, e: &[u8]) -> Option<Step>
-    ensures { kind < 11 → slice_get (steps e.now) kind ≡ Some result }
+// The step of an entry of this kind, or none where its length is wrong.
+fn step_of(kind: EntryKind, e: &[u8]) -> Option<Step>
+    ensures { slice_get (steps e.now) (kind_number kind) ≡ Some result }
 {
     let call = match kind {
-        0 => return Some(Step::SetUp(plan_of(e)?)),
-        1 => Call::Open(just_coordinator(e)?),
-        2 => read(e)?,
-        3 => write(e)?,
-        4 => Call::Abandon(just_coordinator(e)?),
-        5 => Call::Commit(just_coordinator(e)?),
-        6 => Call::Send(just_coordinator(e)?),
-        7 => {
+        EntryKind::SetUp => return Some(Step::SetUp(plan_of(e)?)),
+        EntryKind::Open => Call::Open(just_coordinator(e)?),
+        EntryKind::Read => read(e)?,
+        EntryKind::Write => write(e)?,
+        EntryKind::Abandon => Call::Abandon(just_coordinator(e)?),
+        EntryKind::Commit => Call::Commit(just_coordinator(e)?),
+        EntryKind::Send => Call::Send(just_coordinator(e)?),
+        EntryKind::Poll => {
             let (c, machine) = with_machine(e)?;
             Call::Poll(c, machine)
         }
-        8 => {
+        EntryKind::Take => {
             let (c, machine) = with_machine(e)?;
             Call::Take(c, machine)
         }
-        9 => Call::Check(just_coordinator(e)?),
-        10 => {
+        EntryKind::Check => Call::Check(just_coordinator(e)?),
+        EntryKind::Trim => {
             let (c, machine) = with_machine(e)?;
             Call::Trim(c, machine)
         }
-        _ => return None,
     };
     Some(Step::Call(call))
 }
@@ -181,10 +151,10 @@ pub fn decode(place: usize, content: &[u8]) -> Result<Step, EntryFault>
     let [kind, ..] = content else {
         return Err(EntryFault::WrongLength { place });
     };
-    if *kind > LAST_KIND {
+    let Ok(kind) = EntryKind::try_from(*kind) else {
         return Err(EntryFault::UnknownKind { place });
-    }
-    let Some(step) = step_of(*kind, content) else {
+    };
+    let Some(step) = step_of(kind, content) else {
         return Err(EntryFault::WrongLength { place });
     };
     if !in_order(place, &step) {

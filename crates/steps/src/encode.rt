@@ -5,6 +5,7 @@ ghost use Rattle.protocol.specs.declared.call.Call.TheVariants.{Write};
 ghost use Rattle.steps.specs.Encoding.{home_bytes, encoded_call, encoded_plan, encoded, DecodesBack};
 
 use crate::decode::Step;
+use crate::kind::EntryKind;
 use protocol::call::Call;
 use protocol::plan::{Home, Plan};
 use std::alloc::{AllocError, Global};
@@ -18,7 +19,7 @@ fn encode_write(
     ensures { IfOk result (λ v. v.items ≡ encoded_call (Write coordinator address value)) }
 {
     let [high, low] = address.to_be_bytes();
-    let mut out = [3, coordinator, high, low].to_vec(heap)?;
+    let mut out = [EntryKind::Write as u8, coordinator, high, low].to_vec(heap)?;
     out.extend_from_slice(&value.to_be_bytes())?;
     Ok(out)
 }
@@ -27,19 +28,19 @@ fn encode_call(heap: Global, call: Call) -> Result<Vec<u8>, AllocError>
     ensures { IfOk result (λ v. v.items ≡ encoded_call call) }
 {
     match call {
-        Call::Open(c) => [1, c].to_vec(heap),
+        Call::Open(c) => [EntryKind::Open as u8, c].to_vec(heap),
         Call::Read(c, address) => {
             let [high, low] = address.to_be_bytes();
-            [2, c, high, low].to_vec(heap)
+            [EntryKind::Read as u8, c, high, low].to_vec(heap)
         }
         Call::Write(c, address, value) => encode_write(heap, c, address, value),
-        Call::Abandon(c) => [4, c].to_vec(heap),
-        Call::Commit(c) => [5, c].to_vec(heap),
-        Call::Send(c) => [6, c].to_vec(heap),
-        Call::Poll(c, machine) => [7, c, machine].to_vec(heap),
-        Call::Take(c, machine) => [8, c, machine].to_vec(heap),
-        Call::Check(c) => [9, c].to_vec(heap),
-        Call::Trim(c, machine) => [10, c, machine].to_vec(heap),
+        Call::Abandon(c) => [EntryKind::Abandon as u8, c].to_vec(heap),
+        Call::Commit(c) => [EntryKind::Commit as u8, c].to_vec(heap),
+        Call::Send(c) => [EntryKind::Send as u8, c].to_vec(heap),
+        Call::Poll(c, machine) => [EntryKind::Poll as u8, c, machine].to_vec(heap),
+        Call::Take(c, machine) => [EntryKind::Take as u8, c, machine].to_vec(heap),
+        Call::Check(c) => [EntryKind::Check as u8, c].to_vec(heap),
+        Call::Trim(c, machine) => [EntryKind::Trim as u8, c, machine].to_vec(heap),
     }
 }
 
@@ -56,7 +57,7 @@ fn encode_plan(heap: Global, plan: &Plan) -> Result<Vec<u8>, AllocError>
     ensures { IfOk result (λ v. v.items ≡ encoded_plan plan.now) }
 {
     let mut out = [
-        0,
+        EntryKind::SetUp as u8,
         plan.machines,
         plan.coordinators,
         plan.regions,

@@ -1,14 +1,15 @@
 // What can be wrong with a step file, in three layers: its frame, an entry, the run.
-ghost use Rattle.std.specs.Prelude.{◌≡◌};
-ghost use Rattle.steps.specs.Faults.{frame_numbers, entry_numbers, run_numbers};
+ghost use Rattle.std.specs.Prelude.{◌≡◌, Some};
+ghost use Rattle.steps.specs.Faults.{frame_numbers, entry_numbers, run_numbers, text};
 ghost use Rattle.steps.specs.declared.fault.EntryFault.TheVariants.{Frame};
 ghost use Rattle.steps.specs.declared.fault.RunFault.TheVariants.{Entry};
 
 use crate::frame::LIMIT;
 use protocol::call::Refusal;
+use std::fmt;
 
 // The bytes do not make a row of entries. `place` is where an entry begins.
-#[derive(Clone, Copy)]
+#[derive(Clone, Copy, Debug, PartialEq, Eq)]
 pub enum FrameFault {
     TooLong,
     BadVersion,
@@ -16,7 +17,7 @@ pub enum FrameFault {
 }
 
 // The entries do not make a row of steps.
-#[derive(Clone, Copy)]
+#[derive(Clone, Copy, Debug, PartialEq, Eq)]
 pub enum EntryFault {
     Frame(FrameFault),
     UnknownKind { place: usize },
@@ -25,7 +26,7 @@ pub enum EntryFault {
 }
 
 // The steps do not make a run.
-#[derive(Clone, Copy)]
+#[derive(Clone, Copy, Debug, PartialEq, Eq)]
 pub enum RunFault {
     Entry(EntryFault),
     SetUp { refusal: Refusal, place: usize },
@@ -55,11 +56,11 @@ impl RunFault {
         match self {
             RunFault::Entry(EntryFault::Frame(FrameFault::TooLong)) => 12,
             RunFault::Entry(EntryFault::Frame(FrameFault::BadVersion)) => 13,
-            RunFault::Entry(EntryFault::Frame(FrameFault::CutShort { place: _ })) => 14,
-            RunFault::Entry(EntryFault::UnknownKind { place: _ }) => 15,
-            RunFault::Entry(EntryFault::WrongLength { place: _ }) => 16,
-            RunFault::Entry(EntryFault::OutOfOrder { place: _ }) => 17,
-            RunFault::SetUp { refusal, place: _ } => refusal as u8 + 1,
+            RunFault::Entry(EntryFault::Frame(FrameFault::CutShort { .. })) => 14,
+            RunFault::Entry(EntryFault::UnknownKind { .. }) => 15,
+            RunFault::Entry(EntryFault::WrongLength { .. }) => 16,
+            RunFault::Entry(EntryFault::OutOfOrder { .. }) => 17,
+            RunFault::SetUp { refusal, .. } => u8::from(refusal),
         }
     }
 
@@ -69,11 +70,11 @@ impl RunFault {
         match self {
             RunFault::Entry(EntryFault::Frame(FrameFault::TooLong)) => LIMIT,
             RunFault::Entry(EntryFault::Frame(FrameFault::BadVersion)) => 0,
-            RunFault::Entry(EntryFault::Frame(FrameFault::CutShort { place })) => place,
-            RunFault::Entry(EntryFault::UnknownKind { place }) => place,
-            RunFault::Entry(EntryFault::WrongLength { place }) => place,
-            RunFault::Entry(EntryFault::OutOfOrder { place }) => place,
-            RunFault::SetUp { refusal: _, place } => place,
+            RunFault::Entry(EntryFault::Frame(FrameFault::CutShort { place }))
+            | RunFault::Entry(EntryFault::UnknownKind { place })
+            | RunFault::Entry(EntryFault::WrongLength { place })
+            | RunFault::Entry(EntryFault::OutOfOrder { place })
+            | RunFault::SetUp { place, .. } => place,
         }
     }
 
@@ -83,10 +84,18 @@ impl RunFault {
         match self {
             RunFault::Entry(EntryFault::Frame(_)) => 1,
             RunFault::Entry(_) => 2,
-            RunFault::SetUp {
-                refusal: _,
-                place: _,
-            } => 3,
+            RunFault::SetUp { .. } => 3,
         }
+    }
+}
+
+impl fmt::Display for RunFault {
+    ghost output = { λ fault. Some (text (run_numbers fault)) };
+
+    fn fmt<W: fmt::Write>(&self, f: &mut fmt::Formatter<W>) -> fmt::Result {
+        let cause = self.cause();
+        let place = self.place();
+        let layer = self.layer();
+        write!(f, "fault {cause} {place} {layer}")
     }
 }

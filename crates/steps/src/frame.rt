@@ -38,12 +38,9 @@ impl<'a> Reader<'a> {
         if bytes.len() > LIMIT {
             return Err(FrameFault::TooLong);
         }
-        let Some(version) = bytes.first() else {
+        let [VERSION, ..] = bytes else {
             return Err(FrameFault::BadVersion);
         };
-        if *version != VERSION {
-            return Err(FrameFault::BadVersion);
-        }
         Ok(Reader {
             bytes,
             place: FIRST_PLACE,
@@ -56,20 +53,17 @@ impl<'a> Reader<'a> {
         ensures after { position self.new ≡ passed (position self.old) }
     {
         let place = self.place;
-        let len = self.bytes.len();
-        if len <= place {
+        if self.bytes.len() <= place {
             return Ok(None);
         }
-        if len - place < 2 {
+        let Some((size, behind)) = self.bytes[place..].split_first_chunk::<2>() else {
             return Err(FrameFault::CutShort { place });
-        }
-        let size = u16::from_be_bytes([self.bytes[place], self.bytes[place + 1]]) as usize;
-        let start = place + 2;
-        if len - start < size {
+        };
+        let size = u16::from_be_bytes(*size) as usize;
+        let Some(content) = behind.get(..size) else {
             return Err(FrameFault::CutShort { place });
-        }
-        let content = &self.bytes[start..start + size];
-        self.place = start + size;
+        };
+        self.place = place + 2 + size;
         Ok(Some(Entry { place, content }))
     }
 }

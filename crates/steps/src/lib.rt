@@ -5,6 +5,7 @@ pub mod decode;
 pub mod encode;
 pub mod fault;
 pub mod frame;
+pub mod kind;
 pub mod sequence;
 #[cfg(test)]
 mod tests;

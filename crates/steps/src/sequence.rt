@@ -4,15 +4,16 @@ ghost use Rattle.std.specs.Result.{result_map_both};
 ghost use Rattle.steps.specs.declared.fault.EntryFault.TheVariants.{Frame};
 ghost use Rattle.steps.specs.Frames.{opened};
 ghost use Rattle.steps.specs.Laws.{Lossless, ReadsBack};
-ghost use Rattle.steps.specs.Sequence.{step_at, moved};
-ghost use Rattle.steps.specs.Reading.{steps_position};
+ghost use Rattle.std.specs.Iterator.{YieldsFirst, item_count};
+ghost use Rattle.steps.specs.Sequence.{step_at, moved, steps_from};
+ghost use Rattle.steps.specs.Reading.{steps_position, steps_left};
 
 use crate::decode::{Step, decode};
 use crate::fault::EntryFault;
 use crate::frame::Reader;
 
 // A step and where its entry begins.
-#[derive(Clone, Copy)]
+#[derive(Clone, Copy, Debug, PartialEq, Eq)]
 pub struct Placed {
     pub place: usize,
     pub step: Step,
@@ -47,5 +48,41 @@ impl<'a> Steps<'a> {
         let step = decode(place, entry.content)?;
         self.reader = reader;
         Ok(Some(Placed { place, step }))
+    }
+}
+
+// The steps of a file up to the first fault, behind which nothing is read.
+#[derive(Clone, Copy)]
+pub struct IntoIter<'a> {
+    left: Option<Steps<'a>>,
+}
+
+impl<'a> IntoIterator for Steps<'a> {
+    type Item = Result<Placed, EntryFault>;
+
+    type IntoIter = IntoIter<'a>;
+
+    ghost into_iter_gives = { λ steps it. steps_left it ≡ steps_from (steps_position steps) };
+
+    fn into_iter(self) -> IntoIter<'a> {
+        IntoIter { left: Some(self) }
+    }
+}
+
+impl<'a> Iterator for IntoIter<'a> {
+    type Item = Result<Placed, EntryFault>;
+
+    ghost next_gives = { YieldsFirst steps_left };
+
+    ghost remaining = { item_count steps_left };
+
+    #[tactic(auto, using(crate::proofs::Unrolling::unrolled))]
+    fn next(&mut self) -> Option<Result<Placed, EntryFault>> {
+        let mut steps = self.left.take()?;
+        let next = steps.next().transpose()?;
+        if next.is_ok() {
+            self.left = Some(steps);
+        }
+        Some(next)
     }
 }

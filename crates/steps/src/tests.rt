@@ -15,13 +15,12 @@ const SHEET: &[u8; 51] =
     b"\x01\0\x18\0\x03\x02\x01\x04\0\0\0\0\0\0\0\x07\0\0\0\0\0\0\0\x01\0\x01\x02\0\x02\x01\0\0\x04\x02\0\0\x05\0\x0c\x03\0\0\x05\0\0\0\0\0\0\0\x70";
 
 fn count(bytes: &[u8]) -> Result<u8, RunFault> {
-    let mut steps = Steps::open(bytes)?;
-    for n in 0..9 {
-        if steps.next()?.is_none() {
-            return Ok(n);
-        }
+    let mut count = 0;
+    for (n, step) in (1..).zip(Steps::open(bytes)?) {
+        let _ = step?;
+        count = n;
     }
-    Ok(9)
+    Ok(count)
 }
 
 // The numbers of the fault in a file, or two zeros and how many steps it has.
@@ -71,24 +70,14 @@ fn entries(rt: HostRuntime) -> Result<(), Fail> {
         (refused.cause(), refused.place(), refused.layer()),
         (2, 1, 3)
     );
+    assert_eq!(rt; format!(in heap; "{refused}")?.as_str(), "fault 2 1 3");
     Ok(())
 }
 
-fn found(bytes: &[u8], n: u8) -> Result<Option<Placed>, RunFault> {
-    let mut steps = Steps::open(bytes)?;
-    for _ in 0..n {
-        let _ = steps.next()?;
-    }
-    let placed = steps.next()?;
-    Ok(placed)
-}
-
 // The step behind the first `n` steps.
-fn step(bytes: &[u8], n: u8) -> Option<Placed> {
-    match found(bytes, n) {
-        Ok(placed) => placed,
-        Err(_) => None,
-    }
+fn step(bytes: &[u8], n: usize) -> Option<Placed> {
+    let steps = Steps::open(bytes).ok()?;
+    steps.into_iter().nth(n)?.ok()
 }
 
 #[test]
@@ -113,17 +102,10 @@ fn sheet(rt: HostRuntime) -> Result<(), Fail> {
         ),
         (1, 2, 0)
     );
-    let Some(last) = step(SHEET, 3) else {
-        return Err(Fail::new("no last step"));
+    let last = Placed {
+        place: 37,
+        step: Step::Call(Call::Write(0, 5, 112)),
     };
-    let Step::Call(call) = last.step else {
-        return Err(Fail::new("no call"));
-    };
-    match call {
-        Call::Write(c, address, value) => {
-            assert_eq!(rt; (last.place, c, address, value), (37, 0, 5, 112));
-            Ok(())
-        },
-        _ => Err(Fail::new("no write")),
-    }
+    assert_eq!(rt; step(SHEET, 3), Some(last));
+    Ok(())
 }

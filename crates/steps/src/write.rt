@@ -5,7 +5,7 @@ ghost use Rattle.steps.specs.Writing.{Wrote};
 
 use std::alloc::AllocError;
 
-#[derive(Clone, Copy, Debug)]
+#[derive(Clone, Copy, Debug, PartialEq, Eq)]
 pub enum WriteFault {
     EntryTooLong,
     NoMemory,

@@ -13,13 +13,13 @@ returns-in_default g c = check-closed _ (world _ _ _ _ _ _) _ (inside _ (world _
 
 pub returns-in_default-next_unwritten : goal.returns-in_default-next_unwritten
 returns-in_default-next_unwritten g c =
-    check-none _ (world _ _ _ _ _ _) _ (inside _ (world _ _ _ _ _ _) _ c.in_ok-admit.ensures.answers) c.index-coordinators-c.result c.in-Checking.is c.in_default-next_unwritten.ensures
+    check-none _ (world _ _ _ _ _ _) _ (inside _ (world _ _ _ _ _ _) _ c.in_ok-admit.ensures.answers) c.index-coordinators-c.result c.in-Checking.passed c.in-Checking.is c.in_default-next_unwritten.ensures
 
 pub returns-in_default-is_current : goal.returns-in_default-is_current
 returns-in_default-is_current g c =
-    check-unlooked _ (world _ _ _ _ _ _) _ (inside _ (world _ _ _ _ _ _) _ c.in_ok-admit.ensures.answers) c.index-coordinators-c.result c.in-Checking.is _ _ c.in-Some.ensures c.in_default-is_current.ensures
+    check-unlooked _ (world _ _ _ _ _ _) _ (inside _ (world _ _ _ _ _ _) _ c.in_ok-admit.ensures.answers) c.index-coordinators-c.result c.in-Checking.passed c.in-Checking.is _ _ c.in-Some.ensures c.in_default-is_current.ensures
 
 pub returns : goal.returns
 returns g c =
-    checks _ (world _ _ _ _ _ _) _ (inside _ (world _ _ _ _ _ _) _ c.in_ok-admit.ensures.answers) c.index-coordinators-c.result c.in-Checking.is
+    checks _ (world _ _ _ _ _ _) _ (inside _ (world _ _ _ _ _ _) _ c.in_ok-admit.ensures.answers) c.index-coordinators-c.result c.in-Checking.passed c.in-Checking.is
     (g.met.P.Memory.proper c.args.primaries.now) c.index-coordinators-c-2.result _ _ _ c.in-Some.ensures _ c.in-Some-is_current.ensures _ c.note_check-outcome.ensures _ (search rules)

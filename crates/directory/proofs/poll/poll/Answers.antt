@@ -24,12 +24,12 @@ bounds-own-j g c =
     let w : World = (world c.args.coordinators.now c.args.records.now c.args.replies.now (g.P.Memory.words c.args.primaries.now) (g.F.Memory.words c.args.firsts.now) (g.S.Memory.words c.args.seconds.now)) in
     pairs.below-five c.args.plan.now w c.args.c c.args.m (inside c.args.plan.now w c.args.c c.in_ok-admit.ensures.answers) c.in-true.is
 
-pub returns-in_default-next_record : goal.returns-in_default-next_record
-returns-in_default-next_record g c =
+pub returns-in_default-next : goal.returns-in_default-next
+returns-in_default-next g c =
     let w : World = (world c.args.coordinators.now c.args.records.now c.args.replies.now (g.P.Memory.words c.args.primaries.now) (g.F.Memory.words c.args.firsts.now) (g.S.Memory.words c.args.seconds.now)) in
     let in' = inside c.args.plan.now w c.args.c c.in_ok-admit.ensures.answers in
     nothing-polled c.args.plan.now w c.args.c c.args.m in' c.in-true.is c.index-coordinators-c.result
-    _ (pairs.slots-are c.args.plan.now w c.args.c c.args.m in' c.in-true.is _ (omega arith)) c.in_default-next_record.ensures
+    _ (pairs.slots-are c.args.plan.now w c.args.c c.args.m in' c.in-true.is _ (omega arith)) c.in_default-next.ensures
 
 pub bounds-own-j-2 : goal.bounds-own-j-2
 bounds-own-j-2 g c =
@@ -55,7 +55,7 @@ returns g c =
     polls c.args.plan.now w c.args.c c.args.m in' c.in-true.is (g.met.P.Memory.proper c.args.primaries.now) c.index-coordinators-c-2.result c.index-coordinators-c.result
     _ (pairs.slots-are c.args.plan.now w c.args.c c.args.m in' c.in-true.is _ (omega arith))
     _ (pairs.places-are c.args.plan.now w c.args.c c.args.m in' c.in-true.is _ (omega arith)) _ (omega arith)
-    c.in-Some.found c.in-Some.ensures c.handle-done.result.count c.handle-done.result.granted _ _ _ c.handle-done.ensures
+    c.in-Some.found c.in-Some.ensures c.handle-done.result.count c.handle-done.result.reply _ _ _ c.handle-done.ensures
     c.pass_log.new.log c.answer_lock.new.queue c.answer_lock.new.slots c.answer_lock.auto.slots
     c.pass_log.ensures.stands c.pass_log.ensures.after c.answer_lock.ensures.stands c.answer_lock.ensures.after
-    _ c.kind_number.ensures
+    _ c.into.ensures

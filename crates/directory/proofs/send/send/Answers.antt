@@ -4,7 +4,7 @@ use Rattle.directory.specs.View.{world}
 use Rattle.directory.proofs.Doing.{inside, handed-on}
 use Rattle.directory.proofs.Pairs.{below-five}
 use Rattle.directory.proofs.Logging.{within-table, room-again}
-use Rattle.directory.proofs.Sending.{send-closed, send-nothing, send-full, due-then, sends}
+use Rattle.directory.proofs.Sending.{send-closed, send-nothing, send-full, sends}
 use Rattle.directory.proofs.send.send.Goals as goal
 
 pub returns-in_err-admit : goal.returns-in_err-admit
@@ -16,7 +16,7 @@ returns-in_default g c = send-closed _ (world _ _ _ _ _ _) _ (inside _ (world _ 
 pub returns-in_default-machine_due : goal.returns-in_default-machine_due
 returns-in_default-machine_due g c =
     send-nothing _ (world _ _ _ _ _ _) _ (inside _ (world _ _ _ _ _ _) _ c.in_ok-admit.ensures.answers) c.index-coordinators-c.result
-    _ c.in-Some.ensures c.in_default-machine_due.ensures.lowest
+    _ _ c.in-Some.ensures c.in_default-machine_due.ensures.lowest
 
 pub bounds-own-m : goal.bounds-own-m
 bounds-own-m g c = below-five _ (world _ _ _ _ _ _) _ _ (inside _ (world _ _ _ _ _ _) _ c.in_ok-admit.ensures.answers) c.in-Some-machine_due.ensures.within
@@ -24,7 +24,7 @@ bounds-own-m g c = below-five _ (world _ _ _ _ _ _) _ _ (inside _ (world _ _ _ _
 pub returns-in_default-has_room : goal.returns-in_default-has_room
 returns-in_default-has_room g c =
     send-full _ (world _ _ _ _ _ _) _ (inside _ (world _ _ _ _ _ _) _ c.in_ok-admit.ensures.answers) c.index-coordinators-c.result
-    _ c.in-Some.ensures _ c.in-Some-machine_due.ensures.lowest c.in-Some-machine_due.ensures.within (sym c.in_default-has_room.ensures)
+    _ _ c.in-Some.ensures _ c.in-Some-machine_due.ensures.lowest c.in-Some-machine_due.ensures.within (sym c.in_default-has_room.ensures)
 
 pub bounds-own-m-2 : goal.bounds-own-m-2
 bounds-own-m-2 g c = below-five _ (world _ _ _ _ _ _) _ _ (inside _ (world _ _ _ _ _ _) _ c.in_ok-admit.ensures.answers) c.in-Some-machine_due.ensures.within
@@ -39,16 +39,12 @@ append_in-requires g c = record {
 }
 
 pub go_on-outcome-requires : goal.go_on-outcome-requires
-go_on-outcome-requires g c = record {
-  due =
-      due-then _ (world _ _ _ _ _ _) _ (inside _ (world _ _ _ _ _ _) _ c.in_ok-admit.ensures.answers) c.index-coordinators-c.result _ c.in-Some.ensures c.index-coordinators-c-2.result;
-  below = below-five _ (world _ _ _ _ _ _) _ _ (inside _ (world _ _ _ _ _ _) _ c.in_ok-admit.ensures.answers) c.in-Some-machine_due.ensures.within;
-}
+go_on-outcome-requires g c = below-five _ (world _ _ _ _ _ _) _ _ (inside _ (world _ _ _ _ _ _) _ c.in_ok-admit.ensures.answers) c.in-Some-machine_due.ensures.within
 
 pub returns : goal.returns
 returns g c =
     sends _ (world _ _ _ _ _ _) _ (inside _ (world _ _ _ _ _ _) _ c.in_ok-admit.ensures.answers) c.index-coordinators-c.result
-    _ c.in-Some.ensures _ c.in-Some-machine_due.ensures.lowest c.in-Some-machine_due.ensures.within
+    _ _ c.in-Some.ensures _ c.in-Some-machine_due.ensures.lowest c.in-Some-machine_due.ensures.within
     c.index-coordinators-c-2.result (g.met.P.Memory.proper c.args.primaries.now) (sym c.in-true.ensures)
     _ c.block_of-block.ensures _ _ _ c.append_in.ensures c.record_due-sent.ensures
-    _ c.go_on-outcome.ensures.stands _ c.kind_number.ensures _ c.go_on-outcome.ensures.reports
+    _ c.go_on-outcome.ensures.stands _ c.into.ensures _ c.go_on-outcome.ensures.reports

@@ -27,16 +27,19 @@ bounds-own-m g c = omega (arith, c.in-true.is, (sizes-of _ (inside _ (world _ _ 
 
 pub returns-in_default-peek : goal.returns-in_default-peek
 returns-in_default-peek g c =
-    take-nothing _ (world _ _ _ _ _ _) _ _ (inside _ (world _ _ _ _ _ _) _ c.in_ok-admit.ensures.answers) c.in-true.is c.index-coordinators-c.result c.in-Locking.is c.in_default-peek.ensures.answers
+    take-nothing _ (world _ _ _ _ _ _) _ _ (inside _ (world _ _ _ _ _ _) _ c.in_ok-admit.ensures.answers) c.in-true.is c.index-coordinators-c.result c.in-Locking.locking c.in-Locking.is c.in_default-peek.ensures.answers
 
 pub bounds-own-m-2 : goal.bounds-own-m-2
 bounds-own-m-2 g c = omega (arith, c.in-true.is, (sizes-of _ (inside _ (world _ _ _ _ _ _) _ c.in_ok-admit.ensures.answers).fine).machines.1)
 
+pub replied-requires : goal.replied-requires
+replied-requires g c = omega (arith, c.in-true.is, (sizes-of _ (inside _ (world _ _ _ _ _ _) _ c.in_ok-admit.ensures.answers).fine).machines.1)
+
 pub note_reply-outcome-requires : goal.note_reply-outcome-requires
-note_reply-outcome-requires g c = record { machine = c.in-true.is; few = (sizes-of _ (inside _ (world _ _ _ _ _ _) _ c.in_ok-admit.ensures.answers).fine).machines.1 }
+note_reply-outcome-requires g c = (sizes-of _ (inside _ (world _ _ _ _ _ _) _ c.in_ok-admit.ensures.answers).fine).machines.1
 
 pub returns : goal.returns
 returns g c =
-    takes-reply _ (world _ _ _ _ _ _) _ _ (inside _ (world _ _ _ _ _ _) _ c.in_ok-admit.ensures.answers) c.in-true.is c.index-coordinators-c.result c.in-Locking.is
+    takes-reply _ (world _ _ _ _ _ _) _ _ (inside _ (world _ _ _ _ _ _) _ c.in_ok-admit.ensures.answers) c.in-true.is c.index-coordinators-c.result c.in-Locking.locking c.in-Locking.is
     (g.met.P.Memory.proper c.args.primaries.now) c.index-coordinators-c-2.result _ c.in-Some.ensures.answers (c.in-Some.ensures.stands refl)
-    c.drop_front.result c.drop_front.new.self (search rules) (search rules) _ _ c.note_reply-outcome.ensures _ (search rules)
+    c.drop_front.result c.drop_front.new.self (search rules) (search rules) _ c.replied.ensures _ _ c.note_reply-outcome.ensures _ (search rules)

@@ -21,14 +21,14 @@ returns-in-Some g c =
 
 pub returns-in_default-3 : goal.returns-in_default-3
 returns-in_default-3 g c =
-    read-full _ (world _ _ _ _ _ _) _ (inside _ (world _ _ _ _ _ _) _ c.in_ok-admit.ensures.answers) c.index-coordinators-c.result c.in-Open.is _ (search rules) c.in_default-read_at.ensures (search rules)
+    read-full _ (world _ _ _ _ _ _) _ (inside _ (world _ _ _ _ _ _) _ c.in_ok-admit.ensures.answers) c.index-coordinators-c.result c.in-Open.is _ (search rules) c.in_default-find.ensures (search rules)
 
 pub returns-in_default-look : goal.returns-in_default-look
 returns-in_default-look g c =
-    read-unlooked _ (world _ _ _ _ _ _) _ (inside _ (world _ _ _ _ _ _) _ c.in_ok-admit.ensures.answers) c.index-coordinators-c.result c.in-Open.is _ (search rules) c.in_default-read_at.ensures c.in_default-look.ensures
+    read-unlooked _ (world _ _ _ _ _ _) _ (inside _ (world _ _ _ _ _ _) _ c.in_ok-admit.ensures.answers) c.index-coordinators-c.result c.in-Open.is _ (search rules) c.in_default-find.ensures c.in_default-look.ensures
 
 pub returns : goal.returns
 returns g c =
     reads-new _ (world _ _ _ _ _ _) _ (inside _ (world _ _ _ _ _ _) _ c.in_ok-admit.ensures.answers) c.index-coordinators-c.result
     (g.met.P.Memory.proper c.args.primaries.now) c.index-coordinators-c-2.result _ c.in-Open.is _ (search rules)
-    c.in_default-read_at.ensures c.in-true-2.is _ _ _ c.in-Some-look.ensures c.note_read.ensures
+    c.in_default-find.ensures (search rules) _ _ _ c.in-Some-look.ensures c.note_read.ensures

@@ -14,27 +14,27 @@ returns-in_default g c = write-closed _ (world _ _ _ _ _ _) _ (inside _ (world _
 pub returns-in_default-2 : goal.returns-in_default-2
 returns-in_default-2 g c = write-past _ (world _ _ _ _ _ _) _ (inside _ (world _ _ _ _ _ _) _ c.in_ok-admit.ensures.answers) c.index-coordinators-c.result c.in-Open.is _ _ (search rules)
 
-pub returns-in_default-read_at : goal.returns-in_default-read_at
-returns-in_default-read_at g c =
-    write-unread _ (world _ _ _ _ _ _) _ (inside _ (world _ _ _ _ _ _) _ c.in_ok-admit.ensures.answers) c.index-coordinators-c.result c.in-Open.is _ (search rules) _ c.in_default-read_at.ensures
+pub returns-in_default-find : goal.returns-in_default-find
+returns-in_default-find g c =
+    write-unread _ (world _ _ _ _ _ _) _ (inside _ (world _ _ _ _ _ _) _ c.in_ok-admit.ensures.answers) c.index-coordinators-c.result c.in-Open.is _ (search rules) _ c.in_default-find.ensures
 
 pub returns-in_default-3 : goal.returns-in_default-3
 returns-in_default-3 g c =
     write-used-up _ (world _ _ _ _ _ _) _ (inside _ (world _ _ _ _ _ _) _ c.in_ok-admit.ensures.answers) c.index-coordinators-c.result c.in-Open.is _ (search rules) _ _ c.in-Some.ensures (search rules)
 
-pub returns-in-Some-write_at : goal.returns-in-Some-write_at
-returns-in-Some-write_at g c =
+pub returns-in-Some-find : goal.returns-in-Some-find
+returns-in-Some-find g c =
     writes_again _ (world _ _ _ _ _ _) _ (inside _ (world _ _ _ _ _ _) _ c.in_ok-admit.ensures.answers) c.index-coordinators-c.result
-    (g.met.P.Memory.proper c.args.primaries.now) c.index-coordinators-c-in-Some-write_at.result _ c.in-Open.is _ (search rules)
-    _ _ c.in-Some.ensures (search rules) _ c.in-Some-write_at.ensures c.note_again.ensures
+    (g.met.P.Memory.proper c.args.primaries.now) c.index-coordinators-c-in-Some-find.result _ c.in-Open.is _ (search rules)
+    _ _ c.in-Some.ensures (search rules) _ c.in-Some-find.ensures c.note_again.ensures
 
 pub returns-in_default-4 : goal.returns-in_default-4
 returns-in_default-4 g c =
     write-full _ (world _ _ _ _ _ _) _ (inside _ (world _ _ _ _ _ _) _ c.in_ok-admit.ensures.answers) c.index-coordinators-c.result c.in-Open.is _ (search rules) _ _ c.in-Some.ensures (search rules)
-    c.in_default-write_at.ensures (search rules)
+    c.in_default-find-2.ensures (search rules)
 
 pub returns : goal.returns
 returns g c =
     writes-new _ (world _ _ _ _ _ _) _ (inside _ (world _ _ _ _ _ _) _ c.in_ok-admit.ensures.answers) c.index-coordinators-c.result
     (g.met.P.Memory.proper c.args.primaries.now) c.index-coordinators-c-2.result _ c.in-Open.is _ (search rules)
-    _ _ c.in-Some.ensures (search rules) c.in_default-write_at.ensures (search rules) c.note_write.ensures
+    _ _ c.in-Some.ensures (search rules) c.in_default-find-2.ensures (search rules) c.note_write.ensures

@@ -21,21 +21,21 @@ returns-in_default-phase g c =
 pub bounds-own-m : goal.bounds-own-m
 bounds-own-m g c = below-five _ (world _ _ _ _ _ _) _ _ (inside _ (world _ _ _ _ _ _) _ c.in_ok-admit.ensures.answers) c.in-true.is
 
-pub slice_bounds-untrimmed-end : goal.slice_bounds-untrimmed-end
-slice_bounds-untrimmed-end g c =
+pub slice_bounds-slots-end : goal.slice_bounds-slots-end
+slice_bounds-slots-end g c =
     within-table _ (world _ _ _ _ _ _) _ _ (inside _ (world _ _ _ _ _ _) _ c.in_ok-admit.ensures.answers) c.in-true.is _ c.block_of-block.ensures
 
-pub returns-in_default-untrimmed : goal.returns-in_default-untrimmed
-returns-in_default-untrimmed g c =
+pub returns-in_default-is_untrimmed : goal.returns-in_default-is_untrimmed
+returns-in_default-is_untrimmed g c =
     trim-nothing _ (world _ _ _ _ _ _) _ _ (inside _ (world _ _ _ _ _ _) _ c.in_ok-admit.ensures.answers) c.in-true.is c.index-coordinators-c.result c.in-Idle.is
     _ (part-slots _ (world _ _ _ _ _ _) _ _ (inside _ (world _ _ _ _ _ _) _ c.in_ok-admit.ensures.answers) c.in-true.is _ c.block_of-block.ensures _ (omega arith))
-    _ c.in_default-untrimmed.ensures refl
+    _ c.in_default-is_untrimmed.ensures refl
 
 pub returns-in_default-has_room : goal.returns-in_default-has_room
 returns-in_default-has_room g c =
     trim-full _ (world _ _ _ _ _ _) _ _ (inside _ (world _ _ _ _ _ _) _ c.in_ok-admit.ensures.answers) c.in-true.is c.index-coordinators-c.result c.in-Idle.is
     _ (part-slots _ (world _ _ _ _ _ _) _ _ (inside _ (world _ _ _ _ _ _) _ c.in_ok-admit.ensures.answers) c.in-true.is _ c.block_of-block.ensures _ (omega arith))
-    _ c.in-true-untrimmed.ensures refl (sym c.in_default-has_room.ensures)
+    _ c.in-true-is_untrimmed.ensures refl (sym c.in_default-has_room.ensures)
 
 pub bounds-own-m-2 : goal.bounds-own-m-2
 bounds-own-m-2 g c = below-five _ (world _ _ _ _ _ _) _ _ (inside _ (world _ _ _ _ _ _) _ c.in_ok-admit.ensures.answers) c.in-true.is
@@ -53,5 +53,5 @@ pub returns : goal.returns
 returns g c =
     trims-log _ (world _ _ _ _ _ _) _ _ (inside _ (world _ _ _ _ _ _) _ c.in_ok-admit.ensures.answers) c.in-true.is c.index-coordinators-c.result c.in-Idle.is
     _ (part-slots _ (world _ _ _ _ _ _) _ _ (inside _ (world _ _ _ _ _ _) _ c.in_ok-admit.ensures.answers) c.in-true.is _ c.block_of-block.ensures _ (omega arith))
-    _ c.in-true-untrimmed.ensures refl (g.met.P.Memory.proper c.args.primaries.now) c.index-coordinators-c-2.result (sym c.in-true-has_room.ensures)
+    _ c.in-true-is_untrimmed.ensures refl (g.met.P.Memory.proper c.args.primaries.now) c.index-coordinators-c-2.result (sym c.in-true-has_room.ensures)
     _ c.block_of-block.ensures _ _ _ c.append_in.ensures c.record_due-sent.ensures _ c.last_given-number.ensures

@@ -1,12 +1,18 @@
--- Those lines of the LOCK that was found which the coordinator holds are freed.
-use Rattle.std.proofs.Common.{arith}
-use Rattle.handling.proofs.Handles.{lines-found, found-fit, released}
+-- Those lines of the LOCK that the coordinator holds are freed.
+use Rattle.std.proofs.Common.{◌≡◌, suc, ◌∙◌, List, length, sym, subst}
+use Rattle.protocol.specs.declared.record.Line.{Line}
+use Rattle.protocol.specs.Lines.{held_lines, free_lines}
+use Rattle.protocol.specs.Kept.{Lines}
+use Rattle.handling.proofs.Handles.{locked-fit, released}
 use Rattle.handling.proofs.handle.release.Goals as goal
 
-pub returns-in-Some : goal.returns-in-Some
-returns-in-Some g c = λ s long few.
-    let found = c.in-Some.ensures s.stands in
-    released c.args.plan.now c.in-Some.entry _ (omega arith) (g.P.Memory.words c.args.primaries.now) (g.P.Memory.words c.free_lines.new.memory) c.free_lines.result
-    _ (lines-found c.args.plan.now c.args.log.now c.args.slots.now c.args.number c.in-Some.entry s found)
-    c.args.c c.saturating_add.result c.saturating_add.ensures few
-    c.free_lines.ensures.all_fit (found-fit c.args.plan.now c.args.log.now c.args.slots.now c.args.number c.in-Some.entry s found) long
+pub returns : goal.returns
+returns g c = λ s long few.
+    let p = c.args.plan.now in
+    let ws = g.P.Memory.words c.args.primaries.now in
+    let lines = c.as_slice.ensures.lines ∙ c.locked_lines-lines.ensures s.stands in
+    let good = subst (Lines p) (sym lines) (locked-fit p c.args.log.now.ring.now c.args.log.now.slots.now c.args.number s) in
+    subst
+    (λ (ls : List Line). (g.P.Memory.words c.free_lines.new.memory ≡ free_lines ws (held_lines ws (suc c.args.c) ls)) × (c.free_lines.result ≡ length (held_lines ws (suc c.args.c) ls)))
+    lines
+    (released p c.as_slice.result.now ws (g.P.Memory.words c.free_lines.new.memory) good long c.args.c c.saturating_add.result c.saturating_add.ensures few c.free_lines.result c.free_lines.ensures.all_fit)

@@ -1,33 +1,35 @@
 -- The loop goes through the polled records from the oldest.
-use Rattle.std.proofs.Common.{◌≡◌, ℕ, ◌+◌, reverse, take, sym, ap, ◌∙◌, subst, arith}
+use Rattle.std.proofs.Common.{List, reverse, length, map, ap, ◌∙◌, arith}
+use Rattle.std.proofs.lemmas.List.{length_push, take_all}
+use Rattle.std.proofs.lemmas.Iterator.Consumers.{YieldsList-turn, YieldsList-end}
+use Rattle.ring.specs.Left.{left}
+use Rattle.ring.proofs.Going.{YieldsList-from_entries}
+use Rattle.protocol.specs.Record.{Note, note}
 use Rattle.protocol.specs.Lines.{backups}
 use Rattle.protocol.specs.Poll.{back_up_records}
-use Rattle.handling.specs.Notes.{notes}
-use Rattle.handling.specs.Handling.{BackedUp}
-use Rattle.handling.proofs.Peeks.{peek-there}
-use Rattle.handling.proofs.Truncating.{backed-none, backed-more}
+use Rattle.handling.proofs.Truncating.{in_order, in_order-polled, backed-none, backed-more}
 use Rattle.handling.proofs.handle.truncate.Goals as goal
 
-pub loop-i-init : goal.loop-i-init
-loop-i-init g c = λ s a b. backed-none _ _ _ _ _
+pub loop-entry-init : goal.loop-entry-init
+loop-entry-init g c = λ s a b. backed-none _ _ _ _ _
 
-pub loop-i-preserved : goal.loop-i-preserved
-loop-i-preserved g c = λ s a b.
-    let before = c.loop-i.invariant s a b in
-    let exact : c.saturating_add-puts.result ≡ c.loop-i.puts + c.back_up_record.result =
-    omega (arith, c.saturating_add-puts.ensures, before.few, c.back_up_record.ensures.few, c.loop-i-test.true, s.stands.cursor, s.stands.len, s.few) in
-    subst
-    (λ (n : ℕ). BackedUp c.args.plan.now c.args.m (c.loop-i.i + 1) (notes c.args.log.now c.args.slots.now) (g.F.Memory.words c.args.firsts.now) (g.S.Memory.words c.args.seconds.now)
-    (g.F.Memory.words c.back_up_record.new.firsts) (g.S.Memory.words c.back_up_record.new.seconds) n)
-    (sym exact)
-    (backed-more c.args.plan.now c.args.m c.loop-i.i c.args.log.now c.args.slots.now _ _ c.in-Some.entry _ _ _ _ _ _ (c.in-Some.ensures s.stands) (s, a, b) before c.back_up_record.ensures)
-
-pub returns-in_default : goal.returns-in_default
-returns-in_default g c = λ s a b.
-    absurd (peek-there c.args.log.now c.args.slots.now c.loop-i.i s.stands (omega (arith, c.loop-i-test.true, s.stands.cursor)) (c.in_default.ensures s.stands))
+pub loop-entry-preserved : goal.loop-entry-preserved
+loop-entry-preserved g c = λ s a b.
+    let log = c.args.log.now.ring.now in
+    let slots = c.args.log.now.slots.now in
+    let all = in_order-polled log slots (left c.polled-entry-items.result) (c.polled-entry-items.ensures s.stands) in
+    let road = YieldsList-from_entries note (in_order log slots) (ap (λ e. map note (left e)) c.into_iter-entry-iterator.ensures.into_iter_gives ∙ all) in
+    let turn = YieldsList-turn road c.loop-entry.yielded _ c.loop-entry.yielded_by _ c.next.new.self c.in-Some.entry c.in-Some.is c.next.ensures.steps in
+    backed-more c.args.plan.now c.args.m (length c.loop-entry.yielded) log slots (g.F.Memory.words c.args.firsts.now) (g.S.Memory.words c.args.seconds.now) (note c.in-Some.entry.now) _ _ _ _ _ _
+    turn (s, a, b) (c.loop-entry.invariant s a b) c.back_up_record.ensures _ _ (length_push c.loop-entry.yielded c.in-Some.entry) c.saturating_add-puts.ensures
 
 pub returns : goal.returns
 returns g c = λ s a b.
-    let end : c.loop-i.i ≡ c.args.log.now.cursor = omega arith in
-    (c.loop-i.invariant s a b).after
-    ∙ ap (λ (n : ℕ). back_up_records c.args.plan.now c.args.m (reverse (take n (notes c.args.log.now c.args.slots.now))) (backups 0 (g.F.Memory.words c.args.firsts.now) (g.S.Memory.words c.args.seconds.now))) end
+    let log = c.args.log.now.ring.now in
+    let slots = c.args.log.now.slots.now in
+    let all = in_order-polled log slots (left c.polled-entry-items.result) (c.polled-entry-items.ensures s.stands) in
+    let road = YieldsList-from_entries note (in_order log slots) (ap (λ e. map note (left e)) c.into_iter-entry-iterator.ensures.into_iter_gives ∙ all) in
+    let end = YieldsList-end road c.loop-entry.yielded _ c.loop-entry.yielded_by _ c.next.new.self c.in-None.is c.next.ensures.steps in
+    (c.loop-entry.invariant s a b).after
+    ∙ ap (λ (ns : List Note). back_up_records c.args.plan.now c.args.m (reverse ns) (backups 0 (g.F.Memory.words c.args.firsts.now) (g.S.Memory.words c.args.seconds.now)))
+    (take_all (length c.loop-entry.yielded) (in_order log slots) (omega (arith, end.1)))

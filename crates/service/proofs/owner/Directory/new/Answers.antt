@@ -1,19 +1,14 @@
 -- Each way out of making a directory.
-use Rattle.std.proofs.Common.{[], length, sym, refl, ap, ◌∙◌}
-use Rattle.protocol.specs.declared.call.Refusal.TheVariants.{BadPlan}
-use Rattle.protocol.proofs.Checks.{stops}
+use Rattle.std.proofs.Common.{[], length, refl, ap, ◌∙◌}
 use Rattle.directory.specs.View.{World, world}
 use Rattle.directory.specs.Calls.{Ready}
-use Rattle.service.proofs.Fitting.{Long, not-set_up, is-set_up}
+use Rattle.service.proofs.Fitting.{Long, caused, not-set_up, is-set_up}
 use Rattle.service.proofs.Lending.{held-last, lent}
 use Rattle.service.proofs.owner.Directory.new.Goals as goal
 
-pub returns-then-not-plan_ok : goal.returns-then-not-plan_ok
-returns-then-not-plan_ok g c = (refl, refl, refl, stops BadPlan _ _ (sym c.if-not-plan_ok.ensures))
-
 pub returns-in-Ok-set_up : goal.returns-in-Ok-set_up
 returns-in-Ok-set_up g c =
-    let fit = c.in-Ok.ensures in
+    let fit = c.in-Ok.ensures.1 in
     let was : World = world c.deref_mut.result.now c.deref.result.now c.deref-2.result.now (g.P.Memory.words c.args.primaries) (g.F.Memory.words c.args.firsts) (g.S.Memory.words c.args.seconds) in
     let after : World = world c.set_up.new.coordinators c.deref.result.now c.deref-2.result.now (g.P.Memory.words c.set_up.new.primaries) (g.F.Memory.words c.set_up.new.firsts) (g.S.Memory.words c.set_up.new.seconds) in
     let long : Long c.args.plan was = record { coordinators = ap length c.deref_mut.ensures.value ∙ fit.coordinators; records = ap length c.deref.ensures.value ∙ fit.records; replies = ap length c.deref-2.ensures.value ∙ fit.replies } in
@@ -25,9 +20,12 @@ returns-in-Ok-set_up g c =
     )
 
 pub returns-in-Err : goal.returns-in-Err
-returns-in-Err g c =
-    let fit = c.in-Ok.ensures in
+returns-in-Err g c = (refl, refl, refl, caused c.args.plan (g.P.Memory.words c.args.primaries) (g.F.Memory.words c.args.firsts) (g.S.Memory.words c.args.seconds) c.in-Err.error c.in-Err.ensures)
+
+pub returns-in-Err-set_up : goal.returns-in-Err-set_up
+returns-in-Err-set_up g c =
+    let fit = c.in-Ok.ensures.1 in
     let was : World = world c.deref_mut.result.now c.deref.result.now c.deref-2.result.now (g.P.Memory.words c.args.primaries) (g.F.Memory.words c.args.firsts) (g.S.Memory.words c.args.seconds) in
     let after : World = world c.set_up.new.coordinators c.deref.result.now c.deref-2.result.now (g.P.Memory.words c.set_up.new.primaries) (g.F.Memory.words c.set_up.new.firsts) (g.S.Memory.words c.set_up.new.seconds) in
     let long : Long c.args.plan was = record { coordinators = ap length c.deref_mut.ensures.value ∙ fit.coordinators; records = ap length c.deref.ensures.value ∙ fit.records; replies = ap length c.deref-2.ensures.value ∙ fit.replies } in
-    not-set_up c.args.plan was after long _ c.in-Err.ensures
+    not-set_up c.args.plan was after long _ c.in-Err-set_up.ensures

@@ -1,0 +1,23 @@
+-- The kinds of entries, by their numbers.
+use Rattle.std.specs.Prelude.{◌≡◌, ℕ, ◌<◌, Result, MatchResult}
+use Rattle.steps.specs.declared.kind.EntryKind.{EntryKind}
+use Rattle.steps.specs.declared.kind.EntryKind.TheVariants.{SetUp, Open, Read, Write, Abandon, Commit, Send, Poll, Take, Check, Trim}
+use Rattle.steps.specs.declared.kind.UnknownKind.{UnknownKind}
+
+-- the first byte of an entry of a kind
+abbrev pub kind_number : EntryKind → ℕ
+kind_number SetUp = 0
+kind_number Open = 1
+kind_number Read = 2
+kind_number Write = 3
+kind_number Abandon = 4
+kind_number Commit = 5
+kind_number Send = 6
+kind_number Poll = 7
+kind_number Take = 8
+kind_number Check = 9
+kind_number Trim = 10
+
+-- the kind of this number, or the number itself where it is above 10 and no kind has it
+abbrev pub IsKindOf : ℕ → Result EntryKind UnknownKind → Type 0
+IsKindOf number r = MatchResult r (λ kind. kind_number kind ≡ number) (λ e. (e.0 ≡ number) × (10 < number))
