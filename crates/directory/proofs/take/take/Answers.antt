@@ -29,12 +29,6 @@ pub returns-in_default-peek : goal.returns-in_default-peek
 returns-in_default-peek g c =
     take-nothing _ (world _ _ _ _ _ _) _ _ (inside _ (world _ _ _ _ _ _) _ c.in_ok-admit.ensures.answers) c.in-true.is c.index-coordinators-c.result c.in-Locking.locking c.in-Locking.is c.in_default-peek.ensures.answers
 
-pub bounds-own-m-2 : goal.bounds-own-m-2
-bounds-own-m-2 g c = omega (arith, c.in-true.is, (sizes-of _ (inside _ (world _ _ _ _ _ _) _ c.in_ok-admit.ensures.answers).fine).machines.1)
-
-pub replied-requires : goal.replied-requires
-replied-requires g c = omega (arith, c.in-true.is, (sizes-of _ (inside _ (world _ _ _ _ _ _) _ c.in_ok-admit.ensures.answers).fine).machines.1)
-
 pub note_reply-outcome-requires : goal.note_reply-outcome-requires
 note_reply-outcome-requires g c = (sizes-of _ (inside _ (world _ _ _ _ _ _) _ c.in_ok-admit.ensures.answers).fine).machines.1
 

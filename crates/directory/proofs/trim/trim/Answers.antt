@@ -3,7 +3,7 @@ use Rattle.std.proofs.Common.{sym, refl, arith, rules}
 use Rattle.directory.specs.View.{world}
 use Rattle.directory.proofs.Doing.{inside, handed-on}
 use Rattle.directory.proofs.Pairs.{below-five}
-use Rattle.directory.proofs.Logging.{within-table, part-slots, room-again}
+use Rattle.directory.proofs.Logging.{within-table, part-slots}
 use Rattle.directory.proofs.Trimming.{trim-beyond, trim-closed, trim-nothing, trim-full, trims-log}
 use Rattle.directory.proofs.trim.trim.Goals as goal
 
@@ -39,15 +39,6 @@ returns-in_default-has_room g c =
 
 pub bounds-own-m-2 : goal.bounds-own-m-2
 bounds-own-m-2 g c = below-five _ (world _ _ _ _ _ _) _ _ (inside _ (world _ _ _ _ _ _) _ c.in_ok-admit.ensures.answers) c.in-true.is
-
-pub append_in-requires : goal.append_in-requires
-append_in-requires g c = record {
-  within =
-      within-table _ (world _ _ _ _ _ _) _ _ (inside _ (world _ _ _ _ _ _) _ c.in_ok-admit.ensures.answers) c.in-true.is _ c.block_of-block.ensures;
-  room =
-      room-again _ (world _ _ _ _ _ _) _ _ (inside _ (world _ _ _ _ _ _) _ c.in_ok-admit.ensures.answers) c.in-true.is c.index-coordinators-c.result c.index-coordinators-c-2.result
-      (sym c.in-true-has_room.ensures);
-}
 
 pub returns : goal.returns
 returns g c =
