@@ -74,7 +74,7 @@ impl Work {
     }
 }
 
-// Every log has room for the commit.
+// Every log has room for the commit. A machine's number names both its log and that log's slots.
 fn has_room(plan: &Plan, c: u8, own: &Coordinator, records: &[Record]) -> bool
     requires machines { plan.now.machines ≤ 5 }
     requires capacity { plan.now.capacity ≤ 16 }

@@ -47,7 +47,8 @@ impl Work {
         self.writes.find(address).is_some()
     }
 
-    // The next word to check behind the first `passed` reads, one that was not written, with the number of reads up to it.
+    // The next word to check behind the first `passed` reads, one that was not written, with the number of reads up to it. The
+    // number is part of the answer: a chain would count, skip and find, and say no more plainly which read it is.
     pub(crate) fn next_unwritten(&self, passed: u8) -> Option<(u8, Line)>
         ensures { NextUnwritten self.now passed result }
     {

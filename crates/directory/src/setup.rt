@@ -32,7 +32,7 @@ pub fn fresh(first: u64) -> Coordinator
     }
 }
 
-// Puts the version and the value 0 into every word.
+// Puts the version and the value 0 into every word. A memory lends no words to go through, so each is named by its address.
 fn reset<M: Memory>(memory: &mut M, version: u64)
     requires { version < 2 ^ 60 }
     ensures { M.words memory.new ≡ replicate (length (M.words memory.old)) (word version 0 0) }

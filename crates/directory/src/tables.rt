@@ -35,7 +35,8 @@ pub struct Work {
     pub writes: LineVec<4>,
 }
 
-// A log and a reply queue for each machine: the rings, whose slots stand in the tables of records and replies.
+// A log and a reply queue for each machine: the rings, whose slots stand in the tables of records and replies. Two arrays and
+// not one of pairs, since the definitions read each of them beside its own table, row by row.
 #[derive(Clone, Copy)]
 pub struct Coordinator {
     pub work: Work,

@@ -1,4 +1,5 @@
-// What the lines of a record do to the memories. A line that does not fit a memory is passed over.
+// What the lines of a record do to the memories. A line that does not fit a memory is passed over. The loops that count differ
+// in what they do to which memory: a chain, or one loop over a closure, would count by a test that changes what it captures.
 ghost use Rattle.std.specs.Prelude.{◌≡◌, ℕ, ◌+◌, ◌≤◌, true, ◌&&◌, length, if◌then◌else◌};
 ghost use Rattle.std.specs.List.{AllByRecursion, list_all};
 ghost use Rattle.memory.specs.Words.{holds, lockable, freeable};
@@ -20,7 +21,7 @@ fn can_lock<M: Memory>(memory: &M, line: &Line, holder: u8) -> bool
     let Some((version, held, _)) = memory.look(line.address as usize) else {
         return false;
     };
-    held == 0 && version == line.version && holder >= 1 && holder <= 15
+    held == 0 && version == line.version && (1..=15).contains(&holder)
 }
 
 // Locks every line for the holder, or none where one cannot be locked.
@@ -100,7 +101,8 @@ fn renew_line<M: Memory>(memory: &mut M, line: &Line) -> bool
     install_line(memory, line)
 }
 
-// Puts the line into the backup that machine m has of its word, the first or else the second, where it is newer.
+// Puts the line into the backup that machine m has of its word, the first or else the second, where it is newer. The two
+// memories are of any two makes, each lent to be changed, so they stay two parameters.
 fn back_up_line<F: Memory, S: Memory>(
     plan: &Plan,
     m: u8,

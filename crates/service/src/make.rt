@@ -34,10 +34,10 @@ impl From<MakeError> for Unmade {
 }
 
 impl From<AllocError> for Unmade {
-    ghost from_gives = { λ e r. r ≡ NoMemory e };
+    ghost from_gives = { λ error r. r ≡ NoMemory error };
 
-    fn from(e: AllocError) -> Unmade {
-        Unmade::NoMemory(e)
+    fn from(error: AllocError) -> Unmade {
+        Unmade::NoMemory(error)
     }
 }
 

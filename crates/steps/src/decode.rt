@@ -60,6 +60,7 @@ fn write(e: &[u8]) -> Option<Call>
     Some(Call::Write(*coordinator, address, value))
 }
 
+// A region's three bytes are read at the place that the format names.
 fn home_of(e: &[u8], region: usize) -> Home
     requires { 21 + 3 * regions e.now ≤ length e.now }
     ensures { result ≡ home e.now region }
