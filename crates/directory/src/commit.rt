@@ -135,8 +135,7 @@ pub fn commit<P: Memory, F: Memory, S: Memory>(
         return Err(Refusal::NoRoom);
     };
     let outcome = own.work.first_outcome();
-    let own = &mut coordinators[c as usize];
-    own.work.begin_commit(plan, next);
+    coordinators[c as usize].work.begin_commit(plan, next);
     Ok(Answer {
         first: number,
         second: 0,

@@ -50,8 +50,7 @@ pub fn take<P: Memory, F: Memory, S: Memory>(
         return Err(Refusal::Nothing);
     };
     let own = &mut coordinators[c as usize];
-    let queue = &mut own.queues[m as usize];
-    queue.drop_front(slots, 1);
+    own.queues[m as usize].drop_front(slots, 1);
     let outcome = own.work.note_reply(plan, locking.replied(m, reply.yes));
     Ok(Answer {
         first: u64::from(reply.yes),
