@@ -1,8 +1,8 @@
 -- How a transaction goes on after a reply and after a check.
-use Rattle.std.proofs.Common.{◌≡◌, ℕ, zero, suc, ◌+◌, ◌<◌, ◌≤◌, Bool, true, false, cond, not, ◌&&◌, eqb, List, [], ◌∷◌, length, get_or, take, drop, set, is_some, sym, refl, ap, ◌∙◌, subst, ⊎_elim, add-one, arith}
+use Rattle.std.proofs.Common.{◌≡◌, ℕ, zero, suc, ◌+◌, ◌<◌, ◌≤◌, Bool, true, false, cond, not, ◌&&◌, eqb, List, [], ◌∷◌, length, get_or, take, drop, set, sym, refl, ap, ◌∙◌, subst, ⊎_elim, add-one, arith}
 use Rattle.std.specs.List.{filter, list_all}
 use mir.Val.{bool_byte}
-use Rattle.std.proofs.lemmas.List.{drop_more, drop_all, get_or-set_same, get_or-set_other}
+use Rattle.std.proofs.lemmas.List.{drop_more, get_or-set_same, get_or-set_other}
 use Rattle.std.proofs.lemmas.Bool.{cases_eq, eq-eqb, ne_eqb, true≢false, and_right}
 use Rattle.protocol.specs.declared.plan.Plan.{Plan}
 use Rattle.protocol.specs.declared.record.Line.{Line}
@@ -28,32 +28,6 @@ use Rattle.directory.proofs.Working.{moved, same-phase, keeps-moved, all-due}
 pub as_number : (b : Bool) → bool_byte b ≡ one_if b
 as_number true = refl
 as_number false = refl
-
--- The words left to check, one read further; rs are the words read.
-module _ (t : Work) (rs : List Line) (is : rs ≡ reads_of t) (i : ℕ) where
-  module _ (within : i < length rs) (d : Line) where
-    abbrev line : Line
-    line = get_or rs i d
-
-    abbrev written : Bool
-    written = is_some (line_at line.address (writes_of t))
-
-    split : drop i (reads_of t) ≡ line ∷ drop (i + 1) (reads_of t)
-    split = subst (λ (ls : List Line). drop i ls ≡ line ∷ drop (i + 1) ls) is (drop_more rs i d within)
-
-    one_further : (b : Bool) → written ≡ b → unwritten_from t i ≡ cond (not b) (line ∷ unwritten_from t (i + 1)) (unwritten_from t (i + 1))
-    one_further b e =
-        ap (λ (ls : List Line). read_only ls (writes_of t)) split
-        ∙ ap (λ (z : Bool). cond (not z) (line ∷ unwritten_from t (i + 1)) (unwritten_from t (i + 1))) e
-
-    pub past-written : written ≡ true → unwritten_from t i ≡ unwritten_from t (i + 1)
-    past-written e = one_further true e
-
-    pub at-unwritten : written ≡ false → unwritten_from t i ≡ line ∷ unwritten_from t (i + 1)
-    at-unwritten e = one_further false e
-
-  pub none-unwritten : length rs ≤ i → unwritten_from t i ≡ []
-  none-unwritten l = ap (λ (ls : List Line). read_only ls (writes_of t)) (drop_all i (reads_of t) (omega (arith, l, ap length is)))
 
 -- The machines awaited.
 no_flag : (b : Bool) (n : ℕ) (ns : List ℕ) (rest : Bool) → is_empty ns ≡ rest → is_empty (cond b (n ∷ ns) ns) ≡ (not b && rest)

@@ -16,15 +16,6 @@ module _ (f : ℕ → Bool) (n m : ℕ) where
       ap (λ (k : ℕ). filter f (counting m k)) size
       ∙ ap (λ (j : ℕ). cond (f m) (m ∷ filter f (counting j (n - (m + 1)))) (filter f (counting j (n - (m + 1))))) next
 
-  pub passing-first : m < n → f m ≡ true → passing f n m ≡ m ∷ passing f n (m + 1)
-  passing-first l e = one_more l ∙ ap (λ t. cond t (m ∷ passing f n (m + 1)) (passing f n (m + 1))) e
-
-  pub passing-later : m < n → f m ≡ false → passing f n m ≡ passing f n (m + 1)
-  passing-later l e = one_more l ∙ ap (λ t. cond t (m ∷ passing f n (m + 1)) (passing f n (m + 1))) e
-
-  pub passing-none : n ≤ m → passing f n m ≡ []
-  passing-none l = let size : n - m ≡ 0 = omega arith in ap (λ (k : ℕ). filter f (counting m k)) size
-
 -- the first that passes of k numbers from d on
 pub found-first : (f : ℕ → Bool) (d k : ℕ) → find f (range_with_len d k) ≡ first_machine (filter f (counting d k))
 found-first f d zero = refl
@@ -33,10 +24,6 @@ found-first f d (suc k) = ap (λ (j : ℕ). cond (f d) (Some d) (find f (range_w
     by_cases : (b : Bool) → cond b (Some d) (first_machine (filter f (counting (suc d) k))) ≡ first_machine (cond b (d ∷ filter f (counting (suc d) k)) (filter f (counting (suc d) k)))
     by_cases true = refl
     by_cases false = refl
-
--- from the first machine on
-pub passing-all : (f : ℕ → Bool) (n : ℕ) → passing f n 0 ≡ filter f (counting 0 n)
-passing-all f n = let size : n - 0 ≡ n = omega arith in ap (λ (k : ℕ). filter f (counting 0 k)) size
 
 -- m is the first that passes of k numbers from d on
 record First (f : ℕ → Bool) (d k m : ℕ) : Type 0 where
