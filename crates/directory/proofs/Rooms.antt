@@ -52,9 +52,11 @@ module _ (p : Plan) (c : ℕ) (co : Coordinator) (rs : List Record) (few : p.mac
         told (subst (ring.Sound here) (sym (length-block rs p.capacity place room-end)) (All-get_or (λ z. ring.Sound z p.capacity) co.logs m empty_ring (omega (arith, s.five_logs, few, b)) s.logs))
         ∙ ap (λ (k : ℕ). leb (length (notes_at p c co rs m) + with_trim k (notes_at p c co rs m)) p.capacity) is
 
-    pub roomy-told : (k : ℕ) → k ≡ p.capacity → (n : ℕ) (r : Bool) → n ≡ wanted p (writes_of co.work) m → Tells n r (take k (drop (place * p.capacity) rs)) → Rings p co → r ≡ roomy_at p c co rs m
+    pub roomy-told : (b' : ℕ) → b' ≡ place → (k : ℕ) → k ≡ p.capacity → (n : ℕ) (r : Bool) → n ≡ wanted p (writes_of co.work) m → Tells n r (take k (drop (b' * p.capacity) rs)) → Rings p co → r ≡ roomy_at p c co rs m
     unfolding block
-    roomy-told k e n r is = subst (λ (z : ℕ). Tells n r (take z (drop (place * p.capacity) rs)) → Rings p co → r ≡ roomy_at p c co rs m) (sym e) (whole n r is)
+    roomy-told b' at k e n r is =
+        subst (λ (y : ℕ). Tells n r (take k (drop (y * p.capacity) rs)) → Rings p co → r ≡ roomy_at p c co rs m) (sym at)
+        (subst (λ (z : ℕ). Tells n r (take z (drop (place * p.capacity) rs)) → Rings p co → r ≡ roomy_at p c co rs m) (sym e) (whole n r is))
 
   -- the protocol's room is that of the rings
   module _ (qs : List Reply) where

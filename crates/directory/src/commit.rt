@@ -12,6 +12,7 @@ ghost use Rattle.directory.specs.Work.{StandsFor};
 ghost use Rattle.directory.specs.Calls.{Does};
 
 use crate::checks::admit;
+use crate::slots::block_of;
 use crate::tables::{Coordinator, Locking, Phase, Work};
 use handling::logs::Log;
 use handling::room::{at_primary, to_write};
@@ -85,7 +86,7 @@ fn has_room(plan: &Plan, c: u8, own: &Coordinator, records: &[Record]) -> bool
     let places = plan.capacity as usize;
     for m in 0..plan.machines {
         let j = m as usize;
-        let block = c as usize * plan.machines as usize + j;
+        let block = block_of(plan, c, m);
         let n = to_write(plan, own.work.writes.as_slice(), m);
         let log = Log {
             ring: &own.logs[j],

@@ -10,6 +10,7 @@ ghost use Rattle.directory.specs.Polls.{passed_log, replied};
 ghost use Rattle.directory.specs.Calls.{Does};
 
 use crate::checks::admit;
+use crate::slots::block_of;
 use crate::tables::Coordinator;
 use handling::handle::handle;
 use handling::logs::Log;
@@ -76,7 +77,7 @@ pub fn poll<P: Memory, F: Memory, S: Memory>(
         return Err(Refusal::NoMachine);
     };
     let j = m as usize;
-    let block = c as usize * plan.machines as usize + j;
+    let block = block_of(plan, c, m);
     let places = plan.capacity as usize;
     let slots = &records[block * places..block * places + places];
     let own = &coordinators[c as usize];

@@ -4,6 +4,7 @@ ghost use Rattle.directory.specs.View.{world};
 ghost use Rattle.directory.specs.Calls.{Does};
 
 use crate::checks::admit;
+use crate::slots::block_of;
 use crate::tables::{Coordinator, Phase};
 use memory::interface::Memory;
 use protocol::call::{Answer, Refusal};
@@ -43,7 +44,7 @@ pub fn take<P: Memory, F: Memory, S: Memory>(
     let Phase::Locking(locking) = own.work.phase else {
         return Err(Refusal::WrongPhase);
     };
-    let block = c as usize * plan.machines as usize + m as usize;
+    let block = block_of(plan, c, m);
     let slots = &replies[block * 4..block * 4 + 4];
     let queue = &own.queues[m as usize];
     let Some(reply) = queue.peek(slots, 0) else {

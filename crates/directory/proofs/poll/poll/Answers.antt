@@ -16,8 +16,7 @@ pub slice_bounds-slots-end : goal.slice_bounds-slots-end
 slice_bounds-slots-end g c =
     let w : World = (world c.args.coordinators.now c.args.records.now c.args.replies.now (g.P.Memory.words c.args.primaries.now) (g.F.Memory.words c.args.firsts.now) (g.S.Memory.words c.args.seconds.now)) in
     let in' = inside c.args.plan.now w c.args.c c.in_ok-admit.ensures.answers in
-    let end = pairs.log-end c.args.plan.now w c.args.c c.args.m in' c.in-true.is in
-    search rules
+    pairs.slots-within c.args.plan.now w c.args.c c.args.m in' c.in-true.is _ c.block_of-block.ensures
 
 pub bounds-own-j : goal.bounds-own-j
 bounds-own-j g c =
@@ -29,7 +28,7 @@ returns-in_default-next g c =
     let w : World = (world c.args.coordinators.now c.args.records.now c.args.replies.now (g.P.Memory.words c.args.primaries.now) (g.F.Memory.words c.args.firsts.now) (g.S.Memory.words c.args.seconds.now)) in
     let in' = inside c.args.plan.now w c.args.c c.in_ok-admit.ensures.answers in
     nothing-polled c.args.plan.now w c.args.c c.args.m in' c.in-true.is c.index-coordinators-c.result
-    _ (pairs.slots-are c.args.plan.now w c.args.c c.args.m in' c.in-true.is _ (omega arith)) c.in_default-next.ensures
+    _ (pairs.slots-are c.args.plan.now w c.args.c c.args.m in' c.in-true.is _ c.block_of-block.ensures _ (omega arith)) c.in_default-next.ensures
 
 pub bounds-own-j-2 : goal.bounds-own-j-2
 bounds-own-j-2 g c =
@@ -45,16 +44,15 @@ pub slice_bounds-answer_lock-end : goal.slice_bounds-answer_lock-end
 slice_bounds-answer_lock-end g c =
     let w : World = (world c.args.coordinators.now c.args.records.now c.args.replies.now (g.P.Memory.words c.args.primaries.now) (g.F.Memory.words c.args.firsts.now) (g.S.Memory.words c.args.seconds.now)) in
     let in' = inside c.args.plan.now w c.args.c c.in_ok-admit.ensures.answers in
-    let end = pairs.queue-end c.args.plan.now w c.args.c c.args.m in' c.in-true.is in
-    search rules
+    pairs.places-within c.args.plan.now w c.args.c c.args.m in' c.in-true.is _ c.block_of-block.ensures
 
 pub returns : goal.returns
 returns g c =
     let w : World = (world c.args.coordinators.now c.args.records.now c.args.replies.now (g.P.Memory.words c.args.primaries.now) (g.F.Memory.words c.args.firsts.now) (g.S.Memory.words c.args.seconds.now)) in
     let in' = inside c.args.plan.now w c.args.c c.in_ok-admit.ensures.answers in
     polls c.args.plan.now w c.args.c c.args.m in' c.in-true.is (g.met.P.Memory.proper c.args.primaries.now) c.index-coordinators-c-2.result c.index-coordinators-c.result
-    _ (pairs.slots-are c.args.plan.now w c.args.c c.args.m in' c.in-true.is _ (omega arith))
-    _ (pairs.places-are c.args.plan.now w c.args.c c.args.m in' c.in-true.is _ (omega arith)) _ (omega arith)
+    _ (pairs.slots-are c.args.plan.now w c.args.c c.args.m in' c.in-true.is _ c.block_of-block.ensures _ (omega arith))
+    _ (pairs.places-are c.args.plan.now w c.args.c c.args.m in' c.in-true.is _ c.block_of-block.ensures _ (omega arith)) _ c.block_of-block.ensures _ (omega arith)
     c.in-Some.found c.in-Some.ensures c.handle-done.result.count c.handle-done.result.reply _ _ _ c.handle-done.ensures
     c.pass_log.new.log c.answer_lock.new.queue c.answer_lock.new.slots c.answer_lock.auto.slots
     c.pass_log.ensures.stands c.pass_log.ensures.after c.answer_lock.ensures.stands c.answer_lock.ensures.after
