@@ -102,6 +102,3 @@ module _ (p : Plan) (m i : ℕ) (log : Ring) (slots : List Record) (f s : Words)
         let fits : puts' ≡ puts + r =
         omega (arith, count, here.0, length-take log.cursor (notes log slots), length-notes log slots good.0.stands, good.0.stands.len, good.0.few, before.few, did.few) in
         subst (λ (n : ℕ). BackedUp p m n (in_order log slots) f s a' b' puts') (sym next) (subst (BackedUp p m (i + 1) (in_order log slots) f s a' b') (sym fits) more)
-
-pub backed-none : (p : Plan) (m : ℕ) (ns : List Note) (f s : Words) → BackedUp p m 0 ns f s f s 0
-backed-none p m ns f s = record { few = omega arith; firsts = refl; seconds = refl; after = refl }
