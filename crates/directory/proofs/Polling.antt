@@ -15,6 +15,7 @@ use Rattle.protocol.specs.declared.record.Kind.{Kind}
 use Rattle.protocol.specs.declared.record.Kind.TheVariants.{Lock, CommitBackup, CommitPrimary, Abort, Truncate}
 use Rattle.protocol.specs.declared.record.Record.{Record}
 use Rattle.protocol.specs.declared.record.Reply.{Reply}
+use Rattle.protocol.specs.declared.call.Answer.{Answer}
 use Rattle.protocol.specs.declared.call.Call.TheVariants.{Poll}
 use Rattle.protocol.specs.declared.call.Outcome.TheVariants.{Going}
 use Rattle.protocol.specs.declared.call.Refusal.TheVariants.{NoMachine, Nothing}
@@ -232,16 +233,16 @@ module _ (p : Plan) (w : World) (c m : ℕ) (in' : Inside p w c) where
           → (ring.Sound (get_or o.queues m empty_ring) (length answers) → ring.Sound q (length answers))
           → (ring.Sound (get_or o.queues m empty_ring) (length answers) → (get_or o.queues m empty_ring).len < length answers
           → contents q ys ≡ replied (contents (get_or o.queues m empty_ring) answers) x.number t)
-          → (first : ℕ) → first ≡ number_of x.kind
+          → (said : Answer) → said ≡ answered (number_of x.kind) n Going
           → Does p w (world (set w.coordinators c (record { work = o.work; logs = set o.logs m r; queues = set o.queues m q })) w.records (put_mid (b' * 4) j w.replies ys) a b z)
-          (Ok (answered first n Going)) (Poll c m)
+          (Ok said) (Poll c m)
 
       whole : Polls (get_or w.coordinators c d) (get_or w.coordinators c d) slots places (c * p.machines + m) 4
-      whole x next n t a b z does-so r q ys long r-stands passes q-stands replies first number =
+      whole x next n t a b z does-so r q ys long r-stands passes q-stands replies said is =
           let o = get_or w.coordinators c d in
           subst
-          (λ (i : ℕ). Does p w (world (set w.coordinators c (record { work = o.work; logs = set o.logs m r; queues = set o.queues m q })) w.records (put_mid ((c * p.machines + m) * 4) 4 w.replies ys) a b z) (Ok (answered i n Going)) (Poll c m))
-          (sym number)
+          (λ (i : Answer). Does p w (world (set w.coordinators c (record { work = o.work; logs = set o.logs m r; queues = set o.queues m q })) w.records (put_mid ((c * p.machines + m) * 4) 4 w.replies ys) a b z) (Ok i) (Poll c m))
+          (sym is)
           (polled-one words d x next n t a b z does-so r q ys (long ∙ pairs.long-places p w c m in' below) r-stands passes q-stands replies)
 
       pub polls : (e : Coordinator) → (part : List Record) → part ≡ slots → (answers : List Reply) → answers ≡ places → (b' : ℕ) → b' ≡ c * p.machines + m → (j : ℕ) → j ≡ 4

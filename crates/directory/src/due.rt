@@ -26,6 +26,7 @@ impl Work {
     }
 
     // The lowest machine from `from` on that a record of that kind is due to.
+    #[tactic(auto, using(handling::proofs::Due::found_first))]
     pub(crate) fn machine_due(&self, plan: &Plan, kind: Kind, from: u8) -> Option<u8>
         ensures lowest { result ≡ first_machine (due_from plan.now kind (writes_of self.now) from) }
         ensures within { OfPlan plan.now result }

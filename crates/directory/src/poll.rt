@@ -3,6 +3,8 @@ ghost use Rattle.std.specs.Prelude.{◌≡◌, ◌+◌, ◌<◌, List, length, d
 ghost use Rattle.ring.specs.Contents.{Sound, contents};
 ghost use Rattle.protocol.specs.declared.record.Record.{Record};
 ghost use Rattle.protocol.specs.declared.call.Call.TheVariants.{Poll};
+ghost use Rattle.protocol.specs.declared.call.Outcome.TheVariants.{Going};
+ghost use Rattle.protocol.specs.Call.{answered};
 ghost use Rattle.protocol.specs.Record.{note, number_of};
 ghost use Rattle.handling.specs.Notes.{notes, polled, NextIs};
 ghost use Rattle.directory.specs.View.{log_of, world};
@@ -44,6 +46,17 @@ fn answer_lock(queue: &mut Ring, slots: &mut [Reply], number: u64, reply: Option
 {
     if let Some(yes) = reply {
         queue.append(slots, Reply { number, yes });
+    }
+}
+
+// A poll answers the record's kind and a count, and reports nothing.
+fn polled(kind: Kind, count: u64) -> Answer
+    ensures { result ≡ answered (number_of kind) count Going }
+{
+    Answer {
+        first: kind.into(),
+        second: count,
+        outcome: Outcome::Going,
     }
 }
 
@@ -95,9 +108,5 @@ pub fn poll<P: Memory, F: Memory, S: Memory>(
         found.number,
         done.reply,
     );
-    Ok(Answer {
-        first: found.kind.into(),
-        second: done.count,
-        outcome: Outcome::Going,
-    })
+    Ok(polled(found.kind, done.count))
 }

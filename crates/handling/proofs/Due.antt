@@ -17,9 +17,9 @@ module _ (f : ℕ → Bool) (n m : ℕ) where
       ∙ ap (λ (j : ℕ). cond (f m) (m ∷ filter f (counting j (n - (m + 1)))) (filter f (counting j (n - (m + 1))))) next
 
 -- the first that passes of k numbers from d on
-pub found-first : (f : ℕ → Bool) (d k : ℕ) → find f (range_with_len d k) ≡ first_machine (filter f (counting d k))
-found-first f d zero = refl
-found-first f d (suc k) = ap (λ (j : ℕ). cond (f d) (Some d) (find f (range_with_len j k))) (omega arith) ∙ ap (cond (f d) (Some d)) (found-first f (suc d) k) ∙ by_cases (f d)
+pub found_first : (f : ℕ → Bool) (d k : ℕ) → find f (range_with_len d k) ≡ first_machine (filter f (counting d k))
+found_first f d zero = refl
+found_first f d (suc k) = ap (λ (j : ℕ). cond (f d) (Some d) (find f (range_with_len j k))) (omega arith) ∙ ap (cond (f d) (Some d)) (found_first f (suc d) k) ∙ by_cases (f d)
   where
     by_cases : (b : Bool) → cond b (Some d) (first_machine (filter f (counting (suc d) k))) ≡ first_machine (cond b (d ∷ filter f (counting (suc d) k)) (filter f (counting (suc d) k)))
     by_cases true = refl

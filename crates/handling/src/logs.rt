@@ -4,7 +4,8 @@ ghost use Rattle.std.specs.List.{find};
 ghost use Rattle.ring.specs.Contents.{Sound, contents};
 ghost use Rattle.ring.specs.Left.{left};
 ghost use Rattle.protocol.specs.LineVec.{listed};
-ghost use Rattle.protocol.specs.Record.{note, is_untrimmed};
+ghost use Rattle.protocol.specs.declared.record.Kind.TheVariants.{Truncate};
+ghost use Rattle.protocol.specs.Record.{note, kind_eq, is_untrimmed};
 ghost use Rattle.protocol.specs.Poll.{is_lock_of, locked_lines};
 ghost use Rattle.handling.specs.Notes.{notes, polled, noted, NextIs};
 
@@ -72,7 +73,7 @@ impl<'a> Log<'a> {
         let Some(last) = self.record(self.ring.len - 1) else {
             return false;
         };
-        last.kind != Kind::Truncate
+        !is_truncate(&last)
     }
 }
 
@@ -80,4 +81,10 @@ fn is_lock_of(entry: &Record, number: u64) -> bool
     ensures { result ≡ is_lock_of number (note entry.now) }
 {
     entry.kind == Kind::Lock && entry.number == number
+}
+
+fn is_truncate(entry: &Record) -> bool
+    ensures { result ≡ kind_eq (note entry.now).kind Truncate }
+{
+    entry.kind == Kind::Truncate
 }

@@ -49,6 +49,7 @@ fn has_picked(plan: &Plan, kind: Kind, m: u8, lines: &[Line]) -> bool
 }
 
 // A line has its primary on machine m: the LOCK for m has lines.
+#[tactic(auto, using(crate::proofs::Looking::any_is))]
 pub fn at_primary(plan: &Plan, lines: &[Line], m: u8) -> bool
     ensures { result ≡ is_at_primary plan.now lines.now m }
 {
@@ -56,6 +57,7 @@ pub fn at_primary(plan: &Plan, lines: &[Line], m: u8) -> bool
 }
 
 // A line has a backup on machine m: the COMMIT-BACKUP for m has lines.
+#[tactic(auto, using(crate::proofs::Looking::any_is))]
 pub fn at_backup(plan: &Plan, lines: &[Line], m: u8) -> bool
     ensures { result ≡ is_at_backup plan.now lines.now m }
 {

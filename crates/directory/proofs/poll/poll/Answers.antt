@@ -56,4 +56,4 @@ returns g c =
     c.in-Some.found c.in-Some.ensures c.handle-done.result.count c.handle-done.result.reply _ _ _ c.handle-done.ensures
     c.pass_log.new.log c.answer_lock.new.queue c.answer_lock.new.slots c.answer_lock.auto.slots
     c.pass_log.ensures.stands c.pass_log.ensures.after c.answer_lock.ensures.stands c.answer_lock.ensures.after
-    _ c.into.ensures
+    _ c.polled.ensures

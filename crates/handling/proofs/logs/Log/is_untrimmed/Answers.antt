@@ -1,7 +1,6 @@
 -- The last record decides, and with no record there is nothing to trim.
-use Rattle.std.proofs.Common.{◌≡◌, not, sym, ◌∙◌, arith, rules}
-use Rattle.protocol.specs.declared.record.Kind.TheVariants.{Truncate}
-use Rattle.protocol.specs.Record.{note, kind_eq}
+use Rattle.std.proofs.Common.{not, sym, ap, ◌∙◌, arith}
+use Rattle.protocol.specs.Record.{note}
 use Rattle.handling.specs.Notes.{notes}
 use Rattle.handling.proofs.Peeks.{peek-there, length-notes}
 use Rattle.handling.proofs.Trimming.{untrimmed-last, untrimmed-none}
@@ -15,7 +14,6 @@ returns-in_default c = λ s. absurd (peek-there c.args.self.now.ring.now c.args.
 
 pub returns : goal.returns
 returns c = λ s.
-    let is : c.ne.result ≡ not (kind_eq c.in-Some.last.kind Truncate) = search rules in
-    is
+    ap not c.is_truncate.ensures
     ∙ sym (untrimmed-last (notes c.args.self.now.ring.now c.args.self.now.slots.now) c.args.self.now.ring.now.len (note c.in-Some.last) _
     (length-notes c.args.self.now.ring.now c.args.self.now.slots.now s) (omega arith) (c.in-Some.ensures s))
