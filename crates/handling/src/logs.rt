@@ -67,13 +67,10 @@ impl<'a> Log<'a> {
     pub fn is_untrimmed(&self) -> bool
         ensures { Sound self.now.ring.now (length self.now.slots.now) → result ≡ is_untrimmed (notes self.now.ring.now self.now.slots.now) }
     {
-        if self.ring.len == 0 {
-            return false;
-        }
-        let Some(last) = self.record(self.ring.len - 1) else {
+        let Some(last) = self.ring.entries(self.slots).next_back() else {
             return false;
         };
-        !is_truncate(&last)
+        !is_truncate(last)
     }
 }
 
