@@ -4,7 +4,8 @@ use Rattle.std.specs.List.{filter}
 use Rattle.std.proofs.lemmas.Bool.{true≢false}
 use Rattle.protocol.specs.declared.plan.Plan.{Plan}
 use Rattle.protocol.specs.declared.record.Line.{Line}
-use Rattle.protocol.specs.Lists.{is_empty, counting}
+use Rattle.protocol.specs.Lists.{is_empty}
+use Rattle.std.specs.List.{range_with_len}
 use Rattle.protocol.specs.Room.{primary_machines, is_at_primary}
 use Rattle.protocol.specs.Commit.{first_phase, read_only}
 use Rattle.protocol.specs.Coordinator as protocol
@@ -57,7 +58,7 @@ module _ (p : Plan) where
     unfolding phase_of
     begins-locking few l due denied awaited some =
         let all : awaited_of p l ≡ primary_machines p (writes_of t) =
-        ap (λ (bs : List Bool). filter (λ m. get_or bs m false) (counting 0 p.machines)) awaited
+        ap (λ (bs : List Bool). filter (λ m. get_or bs m false) (range_with_len 0 p.machines)) awaited
         ∙ filter_same (λ m. get_or (five (is_at_primary p (writes_of t))) m false) (is_at_primary p (writes_of t)) 0 p.machines (λ m b. at_five (is_at_primary p (writes_of t)) m (omega arith)) in
         let first = all-due p (is_at_primary p (writes_of t)) in
         let end = first-locking (reads_of t) (writes_of t) some in

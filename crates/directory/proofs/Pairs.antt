@@ -23,6 +23,7 @@ use Rattle.directory.proofs.Each.{entries}
 use Rattle.directory.proofs.Plans.{Sizes, sizes-of, Fits, fits-of}
 use Rattle.directory.proofs.Rows.{row-entry, row-length}
 use Rattle.directory.proofs.Doing.{Inside}
+use Rattle.directory.proofs.Blocks.{block_cut}
 use Rattle.directory.proofs.Views.{first-at}
 
 -- a row of rings as a function of the machine
@@ -74,13 +75,8 @@ module _ (p : Plan) (w : World) (c m : ℕ) (in' : Inside p w c) (below : m < p.
 
   -- as the code lends them: a block b of the table
   module _ (b : ℕ) (is : b ≡ place) where
-    pub slots-are : (k : ℕ) → k ≡ p.capacity → take k (drop (b * p.capacity) w.records) ≡ slots
-    unfolding block
-    slots-are k e = ap (λ (z : ℕ). take k (drop (z * p.capacity) w.records)) is ∙ ap (λ (n : ℕ). take n (drop (place * p.capacity) w.records)) e
-
     pub places-are : (k : ℕ) → k ≡ 4 → take k (drop (b * 4) w.replies) ≡ places
-    unfolding block
-    places-are k e = ap (λ (z : ℕ). take k (drop (z * 4) w.replies)) is ∙ ap (λ (n : ℕ). take n (drop (place * 4) w.replies)) e
+    places-are k e = block_cut w.replies 4 k b place e is
 
     pub slots-within : b * p.capacity + p.capacity ≤ length w.records
     slots-within = subst (λ (z : ℕ). z * p.capacity + p.capacity ≤ length w.records) (sym is) log-end

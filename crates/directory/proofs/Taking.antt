@@ -1,5 +1,5 @@
 -- What take does on each way out.
-use Rattle.std.proofs.Common.{◌≡◌, ℕ, ◌+◌, ◌-◌, ◌*◌, ◌<◌, ◌≤◌, Bool, true, false, cond, not, ◌||◌, List, [], ◌∷◌, length, get_or, take, drop, set, Some, None, Ok, Err, Option, sym, refl, ap, ◌∙◌, subst, arith}
+use Rattle.std.proofs.Common.{◌≡◌, ℕ, ◌<◌, ◌≤◌, Bool, true, false, cond, not, ◌||◌, List, [], ◌∷◌, length, get_or, drop, set, Some, None, Ok, Err, Option, sym, refl, ap, ◌∙◌, subst, arith}
 use mir.Val.{bool_byte}
 use Rattle.std.specs.List.{slice_get}
 use Rattle.std.proofs.lemmas.List.{drop-set-lt, set-get_or}
@@ -75,16 +75,9 @@ take_beyond p w c m in' l =
     let some : Coordinator = some-entry w.coordinators (omega (arith, ltb-true c p.coordinators (sym in'.below), (fits-of p w in'.fits).coordinators)) in
     refuses p w (Take c m) in' some NoMachine (λ s. refusals.take_beyond p _ c m l)
 
-module _ (p : Plan) (w : World) (c m : ℕ) (in' : Inside p w c) (below : m < p.machines) (k : ℕ) (here-is : k ≡ c * p.machines + m) where
+module _ (p : Plan) (w : World) (c m : ℕ) (in' : Inside p w c) (below : m < p.machines) (part : List Reply) (slots : part ≡ places p w c m in' below) where
   abbrev queue_of : Coordinator → Ring
   queue_of co = get_or co.queues m empty_ring
-
-  -- the slots of the queue, as the code cuts them out
-  abbrev part : List Reply
-  part = take (k * 4 + 4 - k * 4) (drop (k * 4) w.replies)
-
-  slots : part ≡ places p w c m in' below
-  slots = pairs.places-are p w c m in' below k here-is _ (omega arith)
 
   long : length part ≡ 4
   long = ap length slots ∙ pairs.long-places p w c m in' below

@@ -12,7 +12,7 @@ ghost use Rattle.directory.specs.Work.{StandsFor};
 ghost use Rattle.directory.specs.Calls.{Does};
 
 use crate::checks::admit;
-use crate::slots::block_of;
+use crate::slots::slots_of;
 use crate::tables::{Coordinator, Locking, Phase, Work};
 use handling::logs::Log;
 use handling::room::{at_primary, to_write};
@@ -75,28 +75,32 @@ impl Work {
     }
 }
 
-// Every log has room for the commit. A machine's number names both its log and that log's slots.
-fn has_room(plan: &Plan, c: u8, own: &Coordinator, records: &[Record]) -> bool
-    requires machines { plan.now.machines ≤ 5 }
-    requires capacity { plan.now.capacity ≤ 16 }
-    requires c { c < plan.now.coordinators }
-    requires records { plan.now.coordinators * plan.now.machines * plan.now.capacity ≤ length records.now }
-    ensures { Rings plan.now own.now → result ≡ list_all (roomy_at plan.now c own.now records.now) (machine_list plan.now) }
-{
-    let places = plan.capacity as usize;
-    for m in 0..plan.machines {
-        let j = m as usize;
-        let block = block_of(plan, c, m);
-        let n = to_write(plan, own.work.writes.as_slice(), m);
+impl Coordinator {
+    // The log of machine m has room for all that the commit writes there.
+    fn has_room_at(&self, plan: &Plan, c: u8, records: &[Record], m: u8) -> bool
+        requires machines { plan.now.machines ≤ 5 }
+        requires c { c < plan.now.coordinators }
+        requires m { m < plan.now.machines }
+        requires records { plan.now.coordinators * plan.now.machines * plan.now.capacity ≤ length records.now }
+        ensures { Rings plan.now self.now → result ≡ roomy_at plan.now c self.now records.now m }
+    {
         let log = Log {
-            ring: &own.logs[j],
-            slots: &records[block * places..block * places + places],
+            ring: &self.logs[m as usize],
+            slots: slots_of(plan, c, m, records, plan.capacity as usize),
         };
-        if !log.has_place(n, places) {
-            return false;
-        }
+        let n = to_write(plan, self.work.writes.as_slice(), m);
+        log.has_place(n)
     }
-    true
+
+    // Every log has room for the commit.
+    fn has_room(&self, plan: &Plan, c: u8, records: &[Record]) -> bool
+        requires machines { plan.now.machines ≤ 5 }
+        requires c { c < plan.now.coordinators }
+        requires records { plan.now.coordinators * plan.now.machines * plan.now.capacity ≤ length records.now }
+        ensures { Rings plan.now self.now → result ≡ list_all (roomy_at plan.now c self.now records.now) (machine_list plan.now) }
+    {
+        (0..plan.machines).all(|m| self.has_room_at(plan, c, records, m))
+    }
 }
 
 // Answers the coordinator's next transaction number; what was written is then locked, else what was read is checked.
@@ -132,7 +136,7 @@ pub fn commit<P: Memory, F: Memory, S: Memory>(
         return Err(Refusal::UsedUp);
     };
     let next = after(number);
-    let true = has_room(plan, c, own, records) else {
+    let true = own.has_room(plan, c, records) else {
         return Err(Refusal::NoRoom);
     };
     let outcome = own.work.first_outcome();

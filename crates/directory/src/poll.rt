@@ -12,7 +12,7 @@ ghost use Rattle.directory.specs.Polls.{passed_log, replied};
 ghost use Rattle.directory.specs.Calls.{Does};
 
 use crate::checks::admit;
-use crate::slots::block_of;
+use crate::slots::{block_of, slots_of};
 use crate::tables::Coordinator;
 use handling::handle::handle;
 use handling::logs::Log;
@@ -90,18 +90,19 @@ pub fn poll<P: Memory, F: Memory, S: Memory>(
         return Err(Refusal::NoMachine);
     };
     let j = m as usize;
-    let block = block_of(plan, c, m);
-    let places = plan.capacity as usize;
-    let slots = &records[block * places..block * places + places];
+    let slots = slots_of(plan, c, m, records, plan.capacity as usize);
     let own = &coordinators[c as usize];
-    let ring = own.logs[j];
-    let log = Log { ring: &ring, slots };
+    let log = Log {
+        ring: &own.logs[j],
+        slots,
+    };
     let Some(found) = log.next() else {
         return Err(Refusal::Nothing);
     };
     let done = handle(plan, c, m, &log, &found, primaries, firsts, seconds);
     let own = &mut coordinators[c as usize];
     pass_log(&mut own.logs[j], slots, found.kind);
+    let block = block_of(plan, c, m);
     answer_lock(
         &mut own.queues[j],
         &mut replies[block * 4..block * 4 + 4],

@@ -4,7 +4,7 @@ ghost use Rattle.directory.specs.View.{world};
 ghost use Rattle.directory.specs.Calls.{Does};
 
 use crate::checks::admit;
-use crate::slots::block_of;
+use crate::slots::slots_of;
 use crate::tables::{Coordinator, Phase};
 use memory::interface::Memory;
 use protocol::call::{Answer, Refusal};
@@ -44,8 +44,7 @@ pub fn take<P: Memory, F: Memory, S: Memory>(
     let Phase::Locking(locking) = own.work.phase else {
         return Err(Refusal::WrongPhase);
     };
-    let block = block_of(plan, c, m);
-    let slots = &replies[block * 4..block * 4 + 4];
+    let slots = slots_of(plan, c, m, replies, 4);
     let queue = &own.queues[m as usize];
     let Some(reply) = queue.peek(slots, 0) else {
         return Err(Refusal::Nothing);

@@ -3,7 +3,7 @@ use Rattle.std.proofs.Common.{refl, arith, rules}
 use Rattle.directory.specs.View.{world}
 use Rattle.directory.proofs.Plans.{sizes-of}
 use Rattle.directory.proofs.Doing.{inside, handed-on}
-use Rattle.directory.proofs.Pairs.{places-within}
+use Rattle.directory.proofs.Pairs.{queue-end}
 use Rattle.directory.proofs.Taking.{take_beyond, take-closed, take-nothing, takes-reply}
 use Rattle.directory.proofs.take.take.Goals as goal
 
@@ -17,22 +17,21 @@ pub returns-in_default-phase : goal.returns-in_default-phase
 returns-in_default-phase g c =
     take-closed _ (world _ _ _ _ _ _) _ _ (inside _ (world _ _ _ _ _ _) _ c.in_ok-admit.ensures.answers) c.in-true.is _ refl c.index-coordinators-c.result c.in_default-phase.not-Locking
 
-pub slice_bounds-slots-end : goal.slice_bounds-slots-end
-slice_bounds-slots-end g c =
-    places-within _ (world _ _ _ _ _ _) _ _ (inside _ (world _ _ _ _ _ _) _ c.in_ok-admit.ensures.answers) c.in-true.is _ c.block_of-block.ensures
+pub slots_of-slots-requires : goal.slots_of-slots-requires
+slots_of-slots-requires g c = queue-end _ (world _ _ _ _ _ _) _ _ (inside _ (world _ _ _ _ _ _) _ c.in_ok-admit.ensures.answers) c.in-true.is
 
 pub bounds-own-m : goal.bounds-own-m
 bounds-own-m g c = omega (arith, c.in-true.is, (sizes-of _ (inside _ (world _ _ _ _ _ _) _ c.in_ok-admit.ensures.answers).fine).machines.1)
 
 pub returns-in_default-peek : goal.returns-in_default-peek
 returns-in_default-peek g c =
-    take-nothing _ (world _ _ _ _ _ _) _ _ (inside _ (world _ _ _ _ _ _) _ c.in_ok-admit.ensures.answers) c.in-true.is _ c.block_of-block.ensures c.index-coordinators-c.result c.in-Locking.locking c.in-Locking.is c.in_default-peek.ensures.answers
+    take-nothing _ (world _ _ _ _ _ _) _ _ (inside _ (world _ _ _ _ _ _) _ c.in_ok-admit.ensures.answers) c.in-true.is _ c.slots_of-slots.ensures c.index-coordinators-c.result c.in-Locking.locking c.in-Locking.is c.in_default-peek.ensures.answers
 
 pub note_reply-outcome-requires : goal.note_reply-outcome-requires
 note_reply-outcome-requires g c = (sizes-of _ (inside _ (world _ _ _ _ _ _) _ c.in_ok-admit.ensures.answers).fine).machines.1
 
 pub returns : goal.returns
 returns g c =
-    takes-reply _ (world _ _ _ _ _ _) _ _ (inside _ (world _ _ _ _ _ _) _ c.in_ok-admit.ensures.answers) c.in-true.is _ c.block_of-block.ensures c.index-coordinators-c.result c.in-Locking.locking c.in-Locking.is
+    takes-reply _ (world _ _ _ _ _ _) _ _ (inside _ (world _ _ _ _ _ _) _ c.in_ok-admit.ensures.answers) c.in-true.is _ c.slots_of-slots.ensures c.index-coordinators-c.result c.in-Locking.locking c.in-Locking.is
     (g.met.P.Memory.proper c.args.primaries.now) c.index-coordinators-c-2.result _ c.in-Some.ensures.answers (c.in-Some.ensures.stands refl)
     c.drop_front.result c.drop_front.new.self (search rules) (search rules) _ c.replied.ensures _ _ c.note_reply-outcome.ensures _ (search rules)
