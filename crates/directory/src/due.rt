@@ -38,10 +38,8 @@ impl Work {
     pub(crate) fn last_given(&self) -> u64
         ensures { result ≡ pred (next_of self.now.next) }
     {
-        match self.next {
-            Some(next) => next.saturating_sub(1),
-            None => u64::MAX,
-        }
+        self.next
+            .map_or(u64::MAX, |next| next.saturating_sub(1))
     }
 
     // The record of that kind for machine m.

@@ -57,10 +57,8 @@ impl<'a> Log<'a> {
     pub fn locked_lines(&self, number: u64) -> LineVec<4>
         ensures { Sound self.now.ring.now (length self.now.slots.now) → listed result ≡ locked_lines number (polled self.now.ring.now self.now.slots.now) }
     {
-        match self.find_lock(number) {
-            Some(entry) => entry.lines,
-            None => LineVec::new(),
-        }
+        self.find_lock(number)
+            .map_or(LineVec::new(), |entry| entry.lines)
     }
 
     // The last record is no TRUNCATE.
