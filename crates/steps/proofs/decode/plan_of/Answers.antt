@@ -1,13 +1,12 @@
 -- The plan that is made is the plan that the entry holds.
 use Rattle.std.proofs.Common.{◌≡◌, ◌+◌, ◌-◌, ◌*◌, length, get_or, take, drop, Some, sym, ap, ◌∙◌, arith, length-drop}
-use Rattle.std.specs.Int.{from_be_bytes}
+use Rattle.std.specs.Int.{w64, from_be_bytes}
 use Rattle.std.proofs.lemmas.Bool.{cond-true, eq-eqb}
 use Rattle.std.proofs.lemmas.List.{take_all, drop-drop}
 use Rattle.steps.specs.Entries.{plan}
 use Rattle.steps.proofs.Numbers.{eight-there}
 use Rattle.steps.proofs.Plans.{same-plan}
 use Rattle.steps.proofs.decode.plan_of.Goals as goal
-use mir.Syntax.{w64}
 
 pub returns : goal.returns
 unfolding plan
