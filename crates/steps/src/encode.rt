@@ -44,6 +44,7 @@ fn encode_call(heap: Global, call: Call) -> Result<Vec<u8>, AllocError>
     }
 }
 
+// A loop, since a chain of `flat_map` was tried and its goal `returns` stayed open.
 fn add_homes(out: &mut Vec<u8>, homes: &[Home]) -> Result<(), AllocError>
     ensures { OnOk result (out.new.items ≡ out.old.items ++ flat_map home_bytes homes.now) }
 {
