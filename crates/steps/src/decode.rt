@@ -52,11 +52,11 @@ fn read(e: &[u8]) -> Option<Call>
 fn write(e: &[u8]) -> Option<Call>
     ensures { result ≡ sized e.now 12 (Write (coordinator e.now) (address e.now) (value e.now)) }
 {
-    let [_, coordinator, high, low, v0, v1, v2, v3, v4, v5, v6, v7] = e else {
+    let [_, coordinator, high, low, value @ ..] = e else {
         return None;
     };
     let address = u16::from_be_bytes([*high, *low]);
-    let value = u64::from_be_bytes([*v0, *v1, *v2, *v3, *v4, *v5, *v6, *v7]);
+    let value = u64::from_be_bytes(value.try_into().ok()?);
     Some(Call::Write(*coordinator, address, value))
 }
 
