@@ -27,9 +27,9 @@ chunk-at (suc k) zero (a ∷ b ∷ c ∷ bs) t h l = refl
 chunk-at (suc k) (suc r) (a ∷ b ∷ c ∷ bs) t h l =
     chunk-at k r bs t (omega arith) (omega arith) ∙ three-behind a b c (3 * r) (3 * suc r) bs (omega arith)
 
-pub in-chunk : (bs t : List ℕ) (r : ℕ) → r < length bs / 3 → t ≡ get_or (first_chunks 3 (length bs / 3) bs) r t
+pub in_chunk : (bs t : List ℕ) (r : ℕ) → r < length bs / 3 → t ≡ get_or (first_chunks 3 (length bs / 3) bs) r t
     → ◌≡◌ {A = Home} (record { primary = get_or t 0 0; first = get_or t 1 0; second = get_or t 2 0 }) (home bs r)
-in-chunk bs t r l h =
+in_chunk bs t r l h =
     let n = length bs / 3 in
     let there : t ≡ three_at bs (3 * r) = h ∙ chunk-at n r bs t (omega arith) l in
     ap (λ (xs : List ℕ). record { primary = get_or xs 0 0; first = get_or xs 1 0; second = get_or xs 2 0 }) there

@@ -61,6 +61,7 @@ fn write(e: &[u8]) -> Option<Call>
 }
 
 // A region that the bytes do not reach has a blank home.
+#[tactic(auto, using(crate::proofs::Homes::in_chunk))]
 fn home_of(bytes: &[u8], region: usize) -> Home
     ensures { result ≡ home bytes.now region }
 {
