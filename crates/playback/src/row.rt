@@ -46,7 +46,8 @@ impl fmt::Display for Row {
     }
 }
 
-// The call's name in the output.
+// The call's name in the output. A match and no `Display`, since its contract pins the name of each kind, and a call is
+// never printed by itself.
 pub fn name(call: Call) -> &'static str
     ensures { result.now ≡ name_of call }
 {
