@@ -29,6 +29,9 @@ fn after(number: u64) -> Option<u64>
     number.checked_add(1)
 }
 
+// A plan of at most five machines is asked for, and not a type of its own: it would be opened again for each function of
+// handling, which take any plan.
+
 // Which machines have primary lines, and so get a LOCK and reply to it.
 fn locked_machines(plan: &Plan, lines: &[Line]) -> [bool; 5]
     ensures { let p = plan.now in let ls = lines.now in result ≡ is_at_primary p ls 0 ∷ is_at_primary p ls 1 ∷ is_at_primary p ls 2 ∷ is_at_primary p ls 3 ∷ is_at_primary p ls 4 ∷ [] }

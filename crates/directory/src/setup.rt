@@ -56,6 +56,7 @@ pub fn set_up<P: Memory, F: Memory, S: Memory>(
         let after = world coordinators.new records.now replies.now (P.Memory.words primaries.new) (F.Memory.words firsts.new) (S.Memory.words seconds.new) in
         SetsUp plan.now was after result }
 {
+    // the first two checks of every call, and not a function of both: that would need an equation of its own
     let true = plan_ok(plan) else {
         return Err(Refusal::BadPlan);
     };

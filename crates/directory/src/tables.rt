@@ -35,8 +35,9 @@ pub struct Work {
     pub writes: LineVec<4>,
 }
 
-// A log and a reply queue for each machine: the rings, whose slots stand in the tables of records and replies. Two arrays and
-// not one of pairs, since the definitions read each of them beside its own table, row by row.
+// A log and a reply queue for each machine: the rings, whose slots stand in the tables of records and replies. There are five
+// machines at most, and the memory is fixed. Two arrays and not one of pairs: each lies over a table of its own, and most calls
+// use one of the two.
 #[derive(Clone, Copy)]
 pub struct Coordinator {
     pub work: Work,

@@ -1,5 +1,6 @@
 // What the lines of a record do to the memories. A line that does not fit a memory is passed over. The loops that count differ
-// in what they do to which memory: a chain, or one loop over a closure, would count by a test that changes what it captures.
+// in what they do to which memory: one function over a closure would have to say what any closure does to any memory, line by
+// line, and that is longer than the loops. That the lines fit is a premise of a clause, since a call returns on any tables.
 ghost use Rattle.std.specs.Prelude.{◌≡◌, ℕ, ◌+◌, ◌≤◌, true, ◌&&◌, length, if◌then◌else◌};
 ghost use Rattle.std.specs.List.{AllByRecursion, list_all};
 ghost use Rattle.memory.specs.Words.{holds, lockable, freeable};
@@ -102,7 +103,8 @@ fn renew_line<M: Memory>(memory: &mut M, line: &Line) -> bool
 }
 
 // Puts the line into the backup that machine m has of its word, the first or else the second, where it is newer. The two
-// memories are of any two makes, each lent to be changed, so they stay two parameters.
+// memories stay two parameters: a struct of two `&mut` of any two makes would be put together at each call, and each clause
+// would name its two words all the same.
 fn back_up_line<F: Memory, S: Memory>(
     plan: &Plan,
     m: u8,

@@ -14,7 +14,8 @@ use protocol::record::{Kind, Record};
 use ring::Ring;
 use ring::entries::Entries;
 
-// A log: its ring, and the slots that its records lie in.
+// A log: its ring, and the slots that its records lie in. That the ring is sound is a premise of what the methods promise and
+// not a ghost field, since a call returns on any tables that it is lent.
 #[derive(Clone, Copy)]
 pub struct Log<'a> {
     pub ring: &'a Ring,

@@ -1,4 +1,4 @@
-// The calls of a directory that owns what they are made on.
+// The calls of a directory that owns what they are made on. Each hands on its parts, as `&mut` only those that the call changes.
 ghost use Rattle.std.specs.Prelude.{◌≡◌};
 ghost use Rattle.protocol.specs.declared.call.Call.TheVariants.{Open, Read, Write, Abandon, Commit, Send, Poll, Take, Check, Trim};
 ghost use Rattle.directory.specs.Calls.{Does};
