@@ -41,7 +41,7 @@ impl Locking {
 
 impl Work {
     // The word is among those written.
-    fn is_written(&self, address: u16) -> bool
+    pub(crate) fn is_written(&self, address: u16) -> bool
         ensures { result ≡ is_some (line_at address (writes_of self.now)) }
     {
         self.writes.find(address).is_some()
