@@ -41,25 +41,21 @@ impl Locking {
 
 impl Work {
     // The word is among those written.
-    fn is_written(&self, address: u16) -> bool
+    pub(crate) fn is_written(&self, address: u16) -> bool
         ensures { result ≡ is_some (line_at address (writes_of self.now)) }
     {
         self.writes.find(address).is_some()
     }
 
-    // The next word to check behind the first `passed` reads, one that was not written, with the number of reads up to it. The
-    // number is part of the answer: a chain would count, skip and find, and say no more plainly which read it is.
+    // The next word to check behind the first `passed` reads, one that was not written, with the number of reads up to it.
+    // At most eight words are read, so the numbers do not run out.
     pub(crate) fn next_unwritten(&self, passed: u8) -> Option<(u8, Line)>
         ensures { NextUnwritten self.now passed result }
     {
-        let reads = self.reads.as_slice();
-        for i in passed..reads.len() as u8 {
-            let line = reads[i as usize];
-            if !self.is_written(line.address) {
-                return Some((i + 1, line));
-            }
-        }
-        None
+        (1u8..)
+            .zip(self.reads.as_slice().iter().copied())
+            .skip(passed as usize)
+            .find(|(_, line)| !self.is_written(line.address))
     }
 
     // The words read and not written are checked, and where there are none the backups are due.

@@ -149,24 +149,20 @@ pub fn write<P: Memory, F: Memory, S: Memory>(
     let true = line.version != LAST_VERSION else {
         return Err(Refusal::UsedUp);
     };
-    if let Some(_) = own.work.writes.find(address) {
+    if own.work.is_written(address) {
         coordinators[c as usize]
             .work
             .note_again(line.address, value);
-        return Ok(Answer {
-            first: 0,
-            second: 0,
-            outcome: Outcome::Going,
+    } else {
+        let true = own.work.writes.len() < 4 else {
+            return Err(Refusal::TooMany);
+        };
+        coordinators[c as usize].work.note_write(Line {
+            address: line.address,
+            version: line.version,
+            value,
         });
     }
-    let true = own.work.writes.len() < 4 else {
-        return Err(Refusal::TooMany);
-    };
-    coordinators[c as usize].work.note_write(Line {
-        address: line.address,
-        version: line.version,
-        value,
-    });
     Ok(Answer {
         first: 0,
         second: 0,
