@@ -11,8 +11,7 @@ ghost use Rattle.handling.specs.Notes.{notes, polled, noted, NextIs};
 
 use protocol::lines::LineVec;
 use protocol::record::{Kind, Record};
-use ring::Ring;
-use ring::entries::Entries;
+use ring::{Entries, Ring};
 
 // A log: its ring, and the slots that its records lie in.
 #[derive(Clone, Copy)]
