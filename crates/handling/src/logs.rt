@@ -11,8 +11,7 @@ ghost use Rattle.handling.specs.Notes.{notes, polled, noted, NextIs};
 
 use protocol::lines::LineVec;
 use protocol::record::{Kind, Record};
-use ring::Ring;
-use ring::entries::Entries;
+use ring::{Entries, Ring};
 
 // A log: its ring, and the slots that its records lie in. That the ring is sound is a premise of what the methods promise and
 // not a ghost field, since a call returns on any tables that it is lent.
