@@ -65,12 +65,12 @@ module _ {X : Type 0} where
       (λ g. cc (g.0, g.1.0, g.1.1, g.1.2, g.1.3))
       (gave-some iter_steps none-next (chain_first_done s) (chain_second_done s) (chain_first_done t) (chain_second_done t) (chain_first s) (chain_second s) (chain_first t) (chain_second t) x h)
 
-  left-none_back : (s t : Entries X) → chain_steps_back iter_steps_back iter_steps_back s None t → left s ≡ []
+  pub left-none_back : (s t : Entries X) → chain_steps_back iter_steps_back iter_steps_back s None t → left s ≡ []
   left-none_back s t h =
       let g = gave-none iter_steps_back none-back (chain_second_done s) (chain_first_done s) (chain_second_done t) (chain_first_done t) (chain_second s) (chain_first s) (chain_second t) (chain_first t) h in
       cc (g.0, g.1)
 
-  left-some_back : (s : Entries X) (x : Bor X) (t : Entries X) → chain_steps_back iter_steps_back iter_steps_back s (Some x) t → left s ≡ left t ++ x.now ∷ []
+  pub left-some_back : (s : Entries X) (x : Bor X) (t : Entries X) → chain_steps_back iter_steps_back iter_steps_back s (Some x) t → left s ≡ left t ++ x.now ∷ []
   left-some_back s x t h = ⊎_elim
       (λ g. cc (g.0, g.1, g.2, g.3, append_assoc (unless_done (chain_first_done s) (chain_first s)) (iter_rest (chain_second t)) (x.now ∷ [])))
       (λ g. cc (g.0, g.1.0, g.1.1, g.1.2, g.1.3, append-nil (unless_done (chain_first_done s) (chain_first s)), append-nil (unless_done (chain_first_done t) (chain_first t))))
