@@ -38,8 +38,7 @@ impl Work {
     pub(crate) fn last_given(&self) -> u64
         ensures { result ≡ pred (next_of self.now.next) }
     {
-        self.next
-            .map_or(u64::MAX, |next| next.saturating_sub(1))
+        self.next.map_or(u64::MAX, |next| next.saturating_sub(1))
     }
 
     // The record of that kind for machine m.

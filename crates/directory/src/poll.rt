@@ -31,10 +31,10 @@ fn pass_log(log: &mut Ring, slots: &[Record], kind: Kind)
     match kind {
         Kind::Truncate => {
             let n = log.cursor.saturating_add(1);
-            let _ = log.drop_front(slots, n);
+            log.drop_front(slots, n);
         }
         _ => {
-            let _ = log.advance();
+            log.advance();
         }
     }
 }

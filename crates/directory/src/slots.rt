@@ -35,5 +35,5 @@ pub(crate) fn append_in<T: Copy>(
     requires room { room ring.old size ≡ true }
     ensures { Appended size block ring.old ring.new table.old table.new entry }
 {
-    let _ = ring.append(&mut table[block * size..block * size + size], entry);
+    ring.append(&mut table[block * size..block * size + size], entry);
 }

@@ -1,6 +1,5 @@
 pub mod Facts
 pub mod Holds
-pub mod Runs
 pub mod Moves
 pub mod Functions
 pub mod Members
