@@ -1,5 +1,6 @@
 pub mod Facts
 pub mod Holds
+pub mod Runs
 pub mod Moves
 pub mod Functions
 pub mod Members
