@@ -87,12 +87,13 @@ impl Coordinator {
         requires records { plan.now.coordinators * plan.now.machines * plan.now.capacity ≤ length records.now }
         ensures { Rings plan.now self.now → result ≡ roomy_at plan.now c self.now records.now m }
     {
+        let capacity = plan.capacity as usize;
         let log = Log {
             ring: &self.logs[m as usize],
-            slots: slots_of(plan, c, m, records, plan.capacity as usize),
+            slots: slots_of(plan, c, m, records, capacity),
         };
         let n = to_write(plan, self.work.writes.as_slice(), m);
-        log.has_place(n)
+        log.has_place(n, capacity)
     }
 
     // Every log has room for the commit.

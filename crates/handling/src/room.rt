@@ -85,10 +85,10 @@ fn are_free(len: usize, n: usize, untrimmed: bool, capacity: usize) -> bool
 }
 
 impl<'a> Log<'a> {
-    // The log has room for n records more, and for a TRUNCATE where one is then wanted.
-    pub fn has_place(&self, n: usize) -> bool
-        ensures { Sound self.now.ring.now (length self.now.slots.now) → result ≡ nat_le (length (notes self.now.ring.now self.now.slots.now) + with_trim n (notes self.now.ring.now self.now.slots.now)) (length self.now.slots.now) }
+    // The log has room for n records more, and for a TRUNCATE where one is then wanted, if it may grow to that many.
+    pub fn has_place(&self, n: usize, capacity: usize) -> bool
+        ensures { Sound self.now.ring.now (length self.now.slots.now) → result ≡ nat_le (length (notes self.now.ring.now self.now.slots.now) + with_trim n (notes self.now.ring.now self.now.slots.now)) capacity }
     {
-        are_free(self.ring.len, n, self.is_untrimmed(), self.slots.len())
+        are_free(self.ring.len, n, self.is_untrimmed(), capacity)
     }
 }
