@@ -1,4 +1,5 @@
-// A commit begins: a number is given, and room is kept.
+// A commit begins: a number is given, and room is kept. A plan of at most five machines is asked for, and is not a type of its
+// own: that would be opened again for each function of handling, which take any plan.
 ghost use Rattle.std.specs.Prelude.{◌≡◌, suc, ◌*◌, ◌^◌, ◌<◌, ◌≤◌, [], ◌∷◌, length};
 ghost use Rattle.std.specs.List.{list_all};
 ghost use Rattle.protocol.specs.declared.call.Call.TheVariants.{Commit};
@@ -28,9 +29,6 @@ fn after(number: u64) -> Option<u64>
 {
     number.checked_add(1)
 }
-
-// A plan of at most five machines is asked for, and not a type of its own: it would be opened again for each function of
-// handling, which take any plan.
 
 // Which machines have primary lines, and so get a LOCK and reply to it.
 fn locked_machines(plan: &Plan, lines: &[Line]) -> [bool; 5]

@@ -1,4 +1,4 @@
-// How a transaction goes on after a reply and after a check.
+// How a transaction goes on after a reply and after a check. A plan of at most five machines is asked for, as in commit.rt.
 ghost use Rattle.std.specs.Prelude.{◌≡◌, ◌<◌, ◌≤◌, not, is_some};
 ghost use Rattle.std.specs.List.{list_all};
 ghost use Rattle.protocol.specs.Lists.{is_empty};

@@ -4,7 +4,8 @@ ghost use Rattle.std.specs.Prelude.{◌≡◌, length};
 use protocol::lines::LineVec;
 use ring::Ring;
 
-// LOCKs are due to the machines from `due` on; a reply is awaited from each machine that is marked; `denied` once one was no.
+// LOCKs are due to the machines from `due` on; a reply is awaited from each machine that is marked, of five in fixed memory;
+// `denied` once one was no.
 #[derive(Clone, Copy)]
 pub struct Locking {
     pub due: u8,

@@ -157,11 +157,9 @@ pub fn write<P: Memory, F: Memory, S: Memory>(
         let true = own.work.writes.len() < 4 else {
             return Err(Refusal::TooMany);
         };
-        coordinators[c as usize].work.note_write(Line {
-            address: line.address,
-            version: line.version,
-            value,
-        });
+        coordinators[c as usize]
+            .work
+            .note_write(Line { value, ..line });
     }
     Ok(Answer {
         first: 0,

@@ -1,4 +1,5 @@
-// Where lines belong, and whether a commit finds room in its coordinator's logs.
+// Where lines belong, and whether a commit finds room in its coordinator's logs. A plan and lines are two parameters, as in
+// records.rt.
 ghost use Rattle.std.specs.Prelude.{◌≡◌, ◌+◌, ◌≤◌, not, ◌||◌, length, ◌==◌, nat_le};
 ghost use Rattle.ring.specs.Contents.{Sound};
 ghost use Rattle.protocol.specs.Plan.{home_of};
