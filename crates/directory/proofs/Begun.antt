@@ -1,13 +1,13 @@
 -- The phase in which a commit begins.
-use Rattle.std.proofs.Common.{◌≡◌, ℕ, zero, suc, ◌<◌, ◌≤◌, Bool, true, false, ◌&&◌, List, [], ◌∷◌, get_or, sym, refl, ap, ◌∙◌, arith}
+use Rattle.std.proofs.Common.{◌≡◌, ℕ, zero, suc, ◌<◌, ◌≤◌, Bool, true, false, List, [], ◌∷◌, get_or, sym, refl, ap, ◌∙◌, arith}
 use Rattle.std.specs.List.{filter}
 use Rattle.std.proofs.lemmas.Bool.{true≢false}
 use Rattle.protocol.specs.declared.plan.Plan.{Plan}
 use Rattle.protocol.specs.declared.record.Line.{Line}
-use Rattle.protocol.specs.declared.call.Outcome.TheVariants.{Going, Committed}
-use Rattle.protocol.specs.Lists.{is_empty, counting}
+use Rattle.protocol.specs.Lists.{is_empty}
+use Rattle.std.specs.List.{range_with_len}
 use Rattle.protocol.specs.Room.{primary_machines, is_at_primary}
-use Rattle.protocol.specs.Commit.{first_phase, first_outcome, read_only}
+use Rattle.protocol.specs.Commit.{first_phase, read_only}
 use Rattle.protocol.specs.Coordinator as protocol
 use Rattle.protocol.proofs.Counting.{filter_same}
 use Rattle.directory.specs.declared.tables.Locking.{Locking}
@@ -58,7 +58,7 @@ module _ (p : Plan) where
     unfolding phase_of
     begins-locking few l due denied awaited some =
         let all : awaited_of p l ≡ primary_machines p (writes_of t) =
-        ap (λ (bs : List Bool). filter (λ m. get_or bs m false) (counting 0 p.machines)) awaited
+        ap (λ (bs : List Bool). filter (λ m. get_or bs m false) (range_with_len 0 p.machines)) awaited
         ∙ filter_same (λ m. get_or (five (is_at_primary p (writes_of t))) m false) (is_at_primary p (writes_of t)) 0 p.machines (λ m b. at_five (is_at_primary p (writes_of t)) m (omega arith)) in
         let first = all-due p (is_at_primary p (writes_of t)) in
         let end = first-locking (reads_of t) (writes_of t) some in
@@ -71,16 +71,3 @@ module _ (p : Plan) where
     pub begins-checking : is_empty (reads_of t) ≡ false → is_empty (writes_of t) ≡ true → phase_of p t (tables.Checking 0) ≡ first_phase p (reads_of t) (writes_of t)
     unfolding phase_of
     begins-checking e f = sym (first-checking (reads_of t) (writes_of t) e f)
-
--- a commit of nothing is reported at once
-pub first-committed : (rs ws : List Line) → is_empty rs ≡ true → is_empty ws ≡ true → Committed ≡ first_outcome rs ws
-first-committed [] [] e f = refl
-first-committed (r ∷ rs) [] e f = absurd (true≢false (sym e))
-first-committed [] (w ∷ ws) e f = absurd (true≢false (sym f))
-first-committed (r ∷ rs) (w ∷ ws) e f = absurd (true≢false (sym f))
-
-pub first-going : (rs ws : List Line) → (is_empty rs && is_empty ws) ≡ false → Going ≡ first_outcome rs ws
-first-going [] [] e = absurd (true≢false e)
-first-going (r ∷ rs) [] e = refl
-first-going [] (w ∷ ws) e = refl
-first-going (r ∷ rs) (w ∷ ws) e = refl

@@ -9,6 +9,11 @@ use Rattle.ring.specs.Rings.{block}
 use Rattle.ring.proofs.Rings.{block_same, length-block}
 use Rattle.directory.specs.Slots.{Appended}
 
+-- the part of n slots from the start of block a on, with a and n as the code counts them
+pub block_cut : {X : Type 0} (table : List X) (k n a b : ℕ) → n ≡ k → a ≡ b → take n (drop (a * k) table) ≡ block k b table
+unfolding block
+block_cut table k n a b e is = ap (λ (z : ℕ). take n (drop (z * k) table)) is ∙ ap (λ (z : ℕ). take z (drop (b * k) table)) e
+
 module _ {X : Type 0} (k b : ℕ) (was : Ring) (table : List X) (within : b * k + k ≤ length table) where
   -- the part of n slots from there on, with n as the code's bounds have it
   module _ (n : ℕ) (is : n ≡ k) where

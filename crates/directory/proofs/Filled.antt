@@ -1,7 +1,7 @@
 -- A loop that fills a list.
 use Rattle.std.proofs.Common.{◌≡◌, ℕ, ◌+◌, ◌^◌, ◌<◌, ◌≤◌, true, ltb, List, [], ◌∷◌, ◌++◌, length, get_or, drop, set, replicate, sym, ap, ◌∙◌, arith, length-append, length-drop}
 use lib.ListN.{length-replicate}
-use Rattle.std.proofs.lemmas.List.{append_assoc, append-nil, set_at, drop_more, drop_all, replicate_more}
+use Rattle.std.proofs.lemmas.List.{append_assoc, set_at, drop_more, replicate_more}
 use Rattle.std.proofs.lemmas.Bool.{lt-ltb, and_from, cond-true}
 use Rattle.memory.specs.declared.word.Word.{Word}
 use Rattle.memory.specs.Words.{word, put_to, puttable}
@@ -16,10 +16,6 @@ module _ {X : Type 0} (xs : List X) (v d : X) (i : ℕ) where
       ∙ set_at (replicate i v) (get_or xs i d) (drop (i + 1) xs) v i (length-replicate i v)
       ∙ sym (append_assoc (replicate i v) (v ∷ []) (drop (i + 1) xs))
       ∙ ap (λ (ds : List X). ds ++ drop (i + 1) xs) (replicate_more i v)
-
-  pub filled-all : i ≡ length xs → part ≡ replicate (length xs) v
-  filled-all end =
-      ap (λ (ds : List X). replicate i v ++ ds) (drop_all i xs (omega arith)) ∙ append-nil (replicate i v) ∙ ap (λ (n : ℕ). replicate n v) end
 
   part_length : i ≤ length xs → length part ≡ length xs
   part_length le = simp (length-append, length-replicate, length-drop) (omega arith)

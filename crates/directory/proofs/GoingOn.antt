@@ -104,10 +104,6 @@ module _ (p : Plan) (t : Work) (d : ℕ) where
   aborting-ends due end = λ kind from e.
       same_due (λ (k : Kind) (_ : ℕ). phase_of p t tables.Idle ≡ gone_on p t (tables.Aborting due) (left k)) Abort due kind from e (ap after_abort (sym (none-left Abort end)))
 
-  -- a phase that sends nothing has nothing due
-  pub stays : (q ph : Phase) → None ≡ due_in q → Next q ph
-  stays q ph nothing = λ kind from e. none-is-some (e ∙ sym nothing)
-
 -- the transaction in the phase that it goes on to
 pub gone-on : (p : Plan) (t : Work) (m : ℕ) (ph : Phase) → GoesOn p t (m + 1) ph → GoneOn p t m (moved t ph)
 gone-on p t m ph goes = λ kind from e. record { phase = same-phase p t ph t.next ph ∙ goes kind from e; next = refl; reads = refl; writes = refl }

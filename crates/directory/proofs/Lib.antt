@@ -21,4 +21,5 @@ pub mod Sending
 pub mod Trimming
 pub mod Progressing
 pub mod Checking
+pub mod Unwritten
 pub mod Taking

@@ -34,7 +34,7 @@ use Rattle.directory.specs.Sound.{Sound}
 use Rattle.directory.specs.Calls.{Does}
 use Rattle.directory.proofs.Plans.{sizes-of}
 use Rattle.directory.proofs.Doing.{Inside, mine, here, invariant-of, changes}
-use Rattle.directory.proofs.Pairs.{place, slots, slots-are, long-slots, log-end, with_slots, log_ring, queue_ring, log-stands, queue-stands, log-here, log-written, logs-apart, records-rest, rings-after}
+use Rattle.directory.proofs.Pairs.{place, slots, long-slots, log-end, with_slots, log_ring, queue_ring, log-stands, queue-stands, log-here, log-written, logs-apart, records-rest, rings-after}
 use Rattle.directory.proofs.Rooms.{log-records}
 use Rattle.directory.proofs.Blocks.{put_back, long-block}
 use Rattle.directory.proofs.Working.{proper, same-entry}
@@ -79,14 +79,6 @@ module _ (p : Plan) (w : World) (c m : ℕ) (in' : Inside p w c) (below : m < p.
   -- the entry read again, with another default
   pub room-again : (e : Coordinator) → room here_ring p.capacity ≡ true → room (log_ring p w c m in' below e) p.capacity ≡ true
   room-again e free = subst (λ (z : Coordinator). room (get_or z.logs m empty_ring) p.capacity ≡ true) (same-entry p w c in' d e) free
-
--- The slots as the code lends them: a block b of the table.
-module _ (p : Plan) (w : World) (c m : ℕ) (in' : Inside p w c) (below : m < p.machines) (b : ℕ) (is : b ≡ c * p.machines + m) where
-  pub within-table : b * p.capacity + p.capacity ≤ length w.records
-  within-table = subst (λ (z : ℕ). z * p.capacity + p.capacity ≤ length w.records) (sym is) (log-end p w c m in' below)
-
-  pub part-slots : (k : ℕ) → k ≡ p.capacity → take k (drop (b * p.capacity) w.records) ≡ slots p w c m in' below
-  part-slots k e = ap (λ (z : ℕ). take k (drop (z * p.capacity) w.records)) is ∙ slots-are p w c m in' below k e
 
 -- the record of a kind for machine m as a coordinator's entry gives it
 abbrev pub AsSent : Plan → ℕ → Kind → ℕ → Record → Coordinator → Type 0

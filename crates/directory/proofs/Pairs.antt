@@ -1,5 +1,5 @@
 -- The log and the queue of one coordinator at one machine: where they stand in the tables, and how a change of them shows in the view.
-use Rattle.std.proofs.Common.{◌≡◌, ℕ, ◌+◌, ◌*◌, ◌<◌, ◌≤◌, List, [], length, get_or, take, drop, set, sym, ap, ◌∙◌, arith}
+use Rattle.std.proofs.Common.{◌≡◌, ℕ, ◌+◌, ◌*◌, ◌<◌, ◌≤◌, List, [], length, get_or, take, drop, set, sym, ap, ◌∙◌, arith, subst}
 use borrow.Rule.Slice.PartMut.{put_mid}
 use Rattle.std.proofs.ByRecursion.{All-get_or, All-set}
 use Rattle.std.proofs.lemmas.List.{length-set}
@@ -23,6 +23,7 @@ use Rattle.directory.proofs.Each.{entries}
 use Rattle.directory.proofs.Plans.{Sizes, sizes-of, Fits, fits-of}
 use Rattle.directory.proofs.Rows.{row-entry, row-length}
 use Rattle.directory.proofs.Doing.{Inside}
+use Rattle.directory.proofs.Blocks.{block_cut}
 use Rattle.directory.proofs.Views.{first-at}
 
 -- a row of rings as a function of the machine
@@ -72,14 +73,16 @@ module _ (p : Plan) (w : World) (c m : ℕ) (in' : Inside p w c) (below : m < p.
   abbrev pub places : List Reply
   places = block 4 place w.replies
 
-  -- as the code lends them
-  pub slots-are : (k : ℕ) → k ≡ p.capacity → take k (drop (place * p.capacity) w.records) ≡ slots
-  unfolding block
-  slots-are k e = ap (λ (n : ℕ). take n (drop (place * p.capacity) w.records)) e
+  -- as the code lends them: a block b of the table
+  module _ (b : ℕ) (is : b ≡ place) where
+    pub places-are : (k : ℕ) → k ≡ 4 → take k (drop (b * 4) w.replies) ≡ places
+    places-are k e = block_cut w.replies 4 k b place e is
 
-  pub places-are : (k : ℕ) → k ≡ 4 → take k (drop (place * 4) w.replies) ≡ places
-  unfolding block
-  places-are k e = ap (λ (n : ℕ). take n (drop (place * 4) w.replies)) e
+    pub slots-within : b * p.capacity + p.capacity ≤ length w.records
+    slots-within = subst (λ (z : ℕ). z * p.capacity + p.capacity ≤ length w.records) (sym is) log-end
+
+    pub places-within : b * 4 + 4 ≤ length w.replies
+    places-within = subst (λ (z : ℕ). z * 4 + 4 ≤ length w.replies) (sym is) queue-end
 
   pub long-slots : length slots ≡ p.capacity
   long-slots = length-block w.records p.capacity place log-end

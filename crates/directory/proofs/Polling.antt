@@ -15,6 +15,7 @@ use Rattle.protocol.specs.declared.record.Kind.{Kind}
 use Rattle.protocol.specs.declared.record.Kind.TheVariants.{Lock, CommitBackup, CommitPrimary, Abort, Truncate}
 use Rattle.protocol.specs.declared.record.Record.{Record}
 use Rattle.protocol.specs.declared.record.Reply.{Reply}
+use Rattle.protocol.specs.declared.call.Answer.{Answer}
 use Rattle.protocol.specs.declared.call.Call.TheVariants.{Poll}
 use Rattle.protocol.specs.declared.call.Outcome.TheVariants.{Going}
 use Rattle.protocol.specs.declared.call.Refusal.TheVariants.{NoMachine, Nothing}
@@ -219,8 +220,8 @@ module _ (p : Plan) (w : World) (c m : ℕ) (in' : Inside p w c) where
 
     -- The same as the code has it: the entry was read twice, and the slots and places are parts of the tables.
     module _ (words : (a : ℕ) → Proper (at w.primaries a)) (d : Coordinator) where
-      abbrev Polls : Coordinator → Coordinator → List Record → List Reply → ℕ → Type 0
-      Polls e o part answers j =
+      abbrev Polls : Coordinator → Coordinator → List Record → List Reply → ℕ → ℕ → Type 0
+      Polls e o part answers b' j =
           (x : Record) → (ring.Sound (get_or e.logs m empty_ring) (length part) → NextIs (notes (get_or e.logs m empty_ring) part) (get_or e.logs m empty_ring).cursor (Some x))
           → (n : ℕ) (t : Option Bool) (a b z : Words)
           → (Ready p (get_or e.logs m empty_ring) part w.primaries w.firsts w.seconds → Lines p (note x).lines → c < 15
@@ -232,24 +233,26 @@ module _ (p : Plan) (w : World) (c m : ℕ) (in' : Inside p w c) where
           → (ring.Sound (get_or o.queues m empty_ring) (length answers) → ring.Sound q (length answers))
           → (ring.Sound (get_or o.queues m empty_ring) (length answers) → (get_or o.queues m empty_ring).len < length answers
           → contents q ys ≡ replied (contents (get_or o.queues m empty_ring) answers) x.number t)
-          → (first : ℕ) → first ≡ number_of x.kind
-          → Does p w (world (set w.coordinators c (record { work = o.work; logs = set o.logs m r; queues = set o.queues m q })) w.records (put_mid ((c * p.machines + m) * 4) j w.replies ys) a b z)
-          (Ok (answered first n Going)) (Poll c m)
+          → (said : Answer) → said ≡ answered (number_of x.kind) n Going
+          → Does p w (world (set w.coordinators c (record { work = o.work; logs = set o.logs m r; queues = set o.queues m q })) w.records (put_mid (b' * 4) j w.replies ys) a b z)
+          (Ok said) (Poll c m)
 
-      whole : Polls (get_or w.coordinators c d) (get_or w.coordinators c d) slots places 4
-      whole x next n t a b z does-so r q ys long r-stands passes q-stands replies first number =
+      whole : Polls (get_or w.coordinators c d) (get_or w.coordinators c d) slots places (c * p.machines + m) 4
+      whole x next n t a b z does-so r q ys long r-stands passes q-stands replies said is =
           let o = get_or w.coordinators c d in
           subst
-          (λ (i : ℕ). Does p w (world (set w.coordinators c (record { work = o.work; logs = set o.logs m r; queues = set o.queues m q })) w.records (put_mid ((c * p.machines + m) * 4) 4 w.replies ys) a b z) (Ok (answered i n Going)) (Poll c m))
-          (sym number)
+          (λ (i : Answer). Does p w (world (set w.coordinators c (record { work = o.work; logs = set o.logs m r; queues = set o.queues m q })) w.records (put_mid ((c * p.machines + m) * 4) 4 w.replies ys) a b z) (Ok i) (Poll c m))
+          (sym is)
           (polled-one words d x next n t a b z does-so r q ys (long ∙ pairs.long-places p w c m in' below) r-stands passes q-stands replies)
 
-      pub polls : (e : Coordinator) → (part : List Record) → part ≡ slots → (answers : List Reply) → answers ≡ places → (j : ℕ) → j ≡ 4 → Polls (get_or w.coordinators c e) (get_or w.coordinators c d) part answers j
-      polls e part same answers same' j four =
-          subst (λ (z : Coordinator). Polls z (get_or w.coordinators c d) part answers j) (same-entry p w c in' d e)
-          (subst (λ (z : List Record). Polls (get_or w.coordinators c d) (get_or w.coordinators c d) z answers j) (sym same)
-          (subst (λ (z : List Reply). Polls (get_or w.coordinators c d) (get_or w.coordinators c d) slots z j) (sym same')
-          (subst (λ (z : ℕ). Polls (get_or w.coordinators c d) (get_or w.coordinators c d) slots places z) (sym four) whole)))
+      pub polls : (e : Coordinator) → (part : List Record) → part ≡ slots → (answers : List Reply) → answers ≡ places → (b' : ℕ) → b' ≡ c * p.machines + m → (j : ℕ) → j ≡ 4
+          → Polls (get_or w.coordinators c e) (get_or w.coordinators c d) part answers b' j
+      polls e part same answers same' b' at j four =
+          subst (λ (z : Coordinator). Polls z (get_or w.coordinators c d) part answers b' j) (same-entry p w c in' d e)
+          (subst (λ (z : List Record). Polls (get_or w.coordinators c d) (get_or w.coordinators c d) z answers b' j) (sym same)
+          (subst (λ (z : List Reply). Polls (get_or w.coordinators c d) (get_or w.coordinators c d) slots z b' j) (sym same')
+          (subst (λ (z : ℕ). Polls (get_or w.coordinators c d) (get_or w.coordinators c d) slots places z j) (sym at)
+          (subst (λ (z : ℕ). Polls (get_or w.coordinators c d) (get_or w.coordinators c d) slots places (c * p.machines + m) z) (sym four) whole))))
 
     pub nothing-polled : (e : Coordinator) (part : List Record) → part ≡ slots
         → (ring.Sound (get_or (get_or w.coordinators c e).logs m empty_ring) (length part) → drop (get_or (get_or w.coordinators c e).logs m empty_ring).cursor (notes (get_or (get_or w.coordinators c e).logs m empty_ring) part) ≡ [])

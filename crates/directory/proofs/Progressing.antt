@@ -1,14 +1,15 @@
 -- How a transaction goes on after a reply and after a check.
-use Rattle.std.proofs.Common.{◌≡◌, ℕ, zero, suc, ◌+◌, ◌<◌, ◌≤◌, Bool, true, false, cond, not, ◌&&◌, eqb, List, [], ◌∷◌, length, get_or, take, drop, set, is_some, sym, refl, ap, ◌∙◌, subst, ⊎_elim, add-one, arith}
+use Rattle.std.proofs.Common.{◌≡◌, ℕ, zero, suc, ◌+◌, ◌<◌, ◌≤◌, Bool, true, false, cond, not, ◌&&◌, eqb, List, [], ◌∷◌, length, get_or, take, drop, set, sym, refl, ap, ◌∙◌, ⊎_elim, arith}
 use Rattle.std.specs.List.{filter, list_all}
 use mir.Val.{bool_byte}
-use Rattle.std.proofs.lemmas.List.{drop_more, drop_all, get_or-set_same, get_or-set_other}
+use Rattle.std.proofs.lemmas.List.{drop_more, get_or-set_same, get_or-set_other}
 use Rattle.std.proofs.lemmas.Bool.{cases_eq, eq-eqb, ne_eqb, true≢false, and_right}
 use Rattle.protocol.specs.declared.plan.Plan.{Plan}
 use Rattle.protocol.specs.declared.record.Line.{Line}
 use Rattle.protocol.specs.declared.call.Outcome.{Outcome}
 use Rattle.protocol.specs.declared.call.Outcome.TheVariants.{Going, Committed, Aborted}
-use Rattle.protocol.specs.Lists.{is_empty, counting, without}
+use Rattle.protocol.specs.Lists.{is_empty, without}
+use Rattle.std.specs.List.{range_with_len}
 use Rattle.protocol.specs.Coordinator as protocol
 use Rattle.protocol.specs.Coordinator.{line_at, new_coordinator, with_words}
 use Rattle.protocol.specs.Plan.{machine_list}
@@ -29,46 +30,20 @@ pub as_number : (b : Bool) → bool_byte b ≡ one_if b
 as_number true = refl
 as_number false = refl
 
--- The words left to check, one read further; rs are the words read.
-module _ (t : Work) (rs : List Line) (is : rs ≡ reads_of t) (i : ℕ) where
-  module _ (within : i < length rs) (d : Line) where
-    abbrev line : Line
-    line = get_or rs i d
-
-    abbrev written : Bool
-    written = is_some (line_at line.address (writes_of t))
-
-    split : drop i (reads_of t) ≡ line ∷ drop (i + 1) (reads_of t)
-    split = subst (λ (ls : List Line). drop i ls ≡ line ∷ drop (i + 1) ls) is (drop_more rs i d within)
-
-    one_further : (b : Bool) → written ≡ b → unwritten_from t i ≡ cond (not b) (line ∷ unwritten_from t (i + 1)) (unwritten_from t (i + 1))
-    one_further b e =
-        ap (λ (ls : List Line). read_only ls (writes_of t)) split
-        ∙ ap (λ (z : Bool). cond (not z) (line ∷ unwritten_from t (i + 1)) (unwritten_from t (i + 1))) e
-
-    pub past-written : written ≡ true → unwritten_from t i ≡ unwritten_from t (i + 1)
-    past-written e = one_further true e
-
-    pub at-unwritten : written ≡ false → unwritten_from t i ≡ line ∷ unwritten_from t (i + 1)
-    at-unwritten e = one_further false e
-
-  pub none-unwritten : length rs ≤ i → unwritten_from t i ≡ []
-  none-unwritten l = ap (λ (ls : List Line). read_only ls (writes_of t)) (drop_all i (reads_of t) (omega (arith, l, ap length is)))
-
 -- The machines awaited.
 no_flag : (b : Bool) (n : ℕ) (ns : List ℕ) (rest : Bool) → is_empty ns ≡ rest → is_empty (cond b (n ∷ ns) ns) ≡ (not b && rest)
 no_flag true n ns rest e = refl
 no_flag false n ns rest e = e
 
-down-from : (flags : List Bool) (i n : ℕ) → i + n ≤ length flags → is_empty (filter (λ k. get_or flags k false) (counting i n)) ≡ list_all not (take n (drop i flags))
+down-from : (flags : List Bool) (i n : ℕ) → i + n ≤ length flags → is_empty (filter (λ k. get_or flags k false) (range_with_len i n)) ≡ list_all not (take n (drop i flags))
 down-from flags i zero l = refl
 down-from flags i (suc n) l =
-    let rest = down-from flags (suc i) n (omega arith) in
-    no_flag (get_or flags i false) i (filter (λ k. get_or flags k false) (counting (suc i) n)) (list_all not (take n (drop (suc i) flags))) rest
-    ∙ ap (λ (fs : List Bool). list_all not (take (suc n) fs)) (sym (subst (λ (j : ℕ). drop i flags ≡ get_or flags i false ∷ drop j flags) (add-one i) (drop_more flags i false (omega arith))))
+    let rest = down-from flags (i + 1) n (omega arith) in
+    no_flag (get_or flags i false) i (filter (λ k. get_or flags k false) (range_with_len (i + 1) n)) (list_all not (take n (drop (i + 1) flags))) rest
+    ∙ ap (λ (fs : List Bool). list_all not (take (suc n) fs)) (sym (drop_more flags i false (omega arith)))
 
 pub none-awaited : (p : Plan) (t : Locking) (n : ℕ) → n ≡ p.machines → n ≤ 5 → is_empty (awaited_of p t) ≡ list_all not (take n t.awaited)
-none-awaited p t n e l = ap (λ (k : ℕ). is_empty (filter (λ m. get_or t.awaited m false) (counting 0 k))) (sym e) ∙ down-from t.awaited 0 n (omega (arith, l, t.five))
+none-awaited p t n e l = ap (λ (k : ℕ). is_empty (filter (λ m. get_or t.awaited m false) (range_with_len 0 k))) (sym e) ∙ down-from t.awaited 0 n (omega (arith, l, t.five))
 
 -- a machine whose reply came is no longer awaited
 and-true : (b c : Bool) → c ≡ true → b ≡ (b && c)

@@ -47,14 +47,13 @@ module _ (p : Plan) (c : ℕ) (co : Coordinator) (rs : List Record) (few : p.mac
     abbrev Tells : ℕ → Bool → List Record → Type 0
     Tells n r part = ring.Sound here (length part) → r ≡ leb (length (notes here part) + with_trim n (notes here part)) p.capacity
 
-    whole : (n : ℕ) (r : Bool) → n ≡ wanted p (writes_of co.work) m → Tells n r (block p.capacity place rs) → Rings p co → r ≡ roomy_at p c co rs m
-    whole n r is told s =
-        told (subst (ring.Sound here) (sym (length-block rs p.capacity place room-end)) (All-get_or (λ z. ring.Sound z p.capacity) co.logs m empty_ring (omega (arith, s.five_logs, few, b)) s.logs))
-        ∙ ap (λ (k : ℕ). leb (length (notes_at p c co rs m) + with_trim k (notes_at p c co rs m)) p.capacity) is
-
-    pub roomy-told : (k : ℕ) → k ≡ p.capacity → (n : ℕ) (r : Bool) → n ≡ wanted p (writes_of co.work) m → Tells n r (take k (drop (place * p.capacity) rs)) → Rings p co → r ≡ roomy_at p c co rs m
-    unfolding block
-    roomy-told k e n r is = subst (λ (z : ℕ). Tells n r (take z (drop (place * p.capacity) rs)) → Rings p co → r ≡ roomy_at p c co rs m) (sym e) (whole n r is)
+    -- what a log over those slots tells, with the number that the commit writes there
+    pub roomy-told : (part : List Record) → part ≡ block p.capacity place rs → (n : ℕ) (r : Bool) → n ≡ wanted p (writes_of co.work) m → Tells n r part → Rings p co → r ≡ roomy_at p c co rs m
+    roomy-told part is n r wants told s =
+        let long : length part ≡ p.capacity = ap length is ∙ length-block rs p.capacity place room-end in
+        told (subst (ring.Sound here) (sym long) (All-get_or (λ z. ring.Sound z p.capacity) co.logs m empty_ring (omega (arith, s.five_logs, few, b)) s.logs))
+        ∙ ap (λ (k : ℕ). leb (length (notes here part) + with_trim k (notes here part)) p.capacity) wants
+        ∙ ap (λ (xs : List Record). leb (length (notes here xs) + with_trim (wanted p (writes_of co.work) m) (notes here xs)) p.capacity) is
 
   -- the protocol's room is that of the rings
   module _ (qs : List Reply) where

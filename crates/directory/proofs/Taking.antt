@@ -1,5 +1,5 @@
 -- What take does on each way out.
-use Rattle.std.proofs.Common.{◌≡◌, ℕ, ◌+◌, ◌-◌, ◌*◌, ◌<◌, ◌≤◌, Bool, true, false, cond, not, ◌||◌, List, [], ◌∷◌, length, get_or, take, drop, set, Some, None, Ok, Err, Option, sym, refl, ap, ◌∙◌, subst, arith}
+use Rattle.std.proofs.Common.{◌≡◌, ℕ, ◌<◌, ◌≤◌, Bool, true, false, cond, not, ◌||◌, List, [], ◌∷◌, length, get_or, drop, set, Some, None, Ok, Err, Option, sym, refl, ap, ◌∙◌, subst, arith}
 use mir.Val.{bool_byte}
 use Rattle.std.specs.List.{slice_get}
 use Rattle.std.proofs.lemmas.List.{drop-set-lt, set-get_or}
@@ -8,7 +8,6 @@ use Rattle.memory.specs.Words.{at, Proper}
 use Rattle.ring.specs.declared.Ring.{Ring}
 use Rattle.ring.specs.Contents.{empty_ring, contents, holds_n, without_front}
 use Rattle.ring.specs.Contents as ring
-use Rattle.ring.specs.Rings.{block}
 use Rattle.ring.proofs.Rotated.{slot-below, contents-drop}
 use Rattle.protocol.specs.declared.plan.Plan.{Plan}
 use Rattle.protocol.specs.declared.record.Reply.{Reply}
@@ -38,7 +37,7 @@ use Rattle.directory.specs.Calls.{Does}
 use Rattle.directory.proofs.Plans.{fits-of, sizes-of}
 use Rattle.directory.proofs.Doing.{Inside, here, refuses, changes}
 use Rattle.directory.proofs.Pairs as pairs
-use Rattle.directory.proofs.Pairs.{place, places}
+use Rattle.directory.proofs.Pairs.{places}
 use Rattle.directory.proofs.Progressing.{as_number, still}
 use Rattle.directory.proofs.Working.{proper, same-entry}
 
@@ -76,19 +75,9 @@ take_beyond p w c m in' l =
     let some : Coordinator = some-entry w.coordinators (omega (arith, ltb-true c p.coordinators (sym in'.below), (fits-of p w in'.fits).coordinators)) in
     refuses p w (Take c m) in' some NoMachine (λ s. refusals.take_beyond p _ c m l)
 
-module _ (p : Plan) (w : World) (c m : ℕ) (in' : Inside p w c) (below : m < p.machines) where
+module _ (p : Plan) (w : World) (c m : ℕ) (in' : Inside p w c) (below : m < p.machines) (part : List Reply) (slots : part ≡ places p w c m in' below) where
   abbrev queue_of : Coordinator → Ring
   queue_of co = get_or co.queues m empty_ring
-
-  -- the slots of the queue, as the code cuts them out
-  abbrev part : List Reply
-  part = take (place p w c m in' below * 4 + 4 - place p w c m in' below * 4) (drop (place p w c m in' below * 4) w.replies)
-
-  slots : part ≡ places p w c m in' below
-  unfolding block
-  slots =
-      let four : place p w c m in' below * 4 + 4 - place p w c m in' below * 4 ≡ 4 = omega arith in
-      ap (λ (n : ℕ). take n (drop (place p w c m in' below * 4) w.replies)) four
 
   long : length part ≡ 4
   long = ap length slots ∙ pairs.long-places p w c m in' below

@@ -1,7 +1,7 @@
 -- What open, read, write and abandon do on each way out.
-use Rattle.std.proofs.Common.{◌≡◌, ℕ, ◌-◌, ◌^◌, ◌<◌, ◌≤◌, Bool, true, false, cond, List, [], length, get_or, set, Some, None, Ok, Err, Option, sym, ap, ◌∙◌, subst, arith}
+use Rattle.std.proofs.Common.{◌≡◌, ℕ, ◌-◌, ◌^◌, ◌<◌, ◌≤◌, Bool, true, false, cond, List, [], length, get_or, set, Some, None, Ok, Err, Option, is_some, refl, sym, ap, ◌∙◌, subst, arith}
 use Rattle.std.specs.List.{push}
-use Rattle.std.proofs.lemmas.Bool.{lt-ltb}
+use Rattle.std.proofs.lemmas.Bool.{lt-ltb, true≢false}
 use Rattle.memory.specs.Words.{at, there, look_at, Proper}
 use Rattle.protocol.specs.declared.plan.Plan.{Plan}
 use Rattle.protocol.specs.declared.record.Line.{Line}
@@ -44,6 +44,15 @@ look_none ws a e l = go (there ws a) (lt-ltb a (length ws) l) e
     go : (b : Bool) → b ≡ true → ◌≡◌ {A = Option (ℕ × ℕ × ℕ)} None (cond b (Some ((at ws a).version, (at ws a).holder, (at ws a).value)) None) → ⊥
     go true t q = let z : ◌≡◌ {A = ℕ} 0 1 = cc in omega arith
     go false t q = let z : ◌≡◌ {A = ℕ} 0 1 = cc in omega arith
+
+-- a line that is there, or not
+no-line : (o : Option Line) → is_some o ≡ false → None ≡ o
+no-line None e = refl
+no-line (Some l) e = absurd (true≢false e)
+
+some-line : (o : Option Line) → is_some o ≡ true → (l : Line) × (Some l ≡ o)
+some-line None e = absurd (true≢false (sym e))
+some-line (Some l) e = (l, refl)
 
 -- the entry as it was first read, with default e, and as it is changed, with default d
 module _ (p : Plan) (w : World) (c : ℕ) (in' : Inside p w c) (e : Coordinator) where
@@ -103,10 +112,10 @@ module _ (p : Plan) (w : World) (c : ℕ) (in' : Inside p w c) (e : Coordinator)
           unfolding own
           write-used-up q = refuses p w (Write c a v) in' e UsedUp (λ s. protocol-calls.write-used-up p _ c a v (is_open p first.work _ is) within r (sym found) q)
 
-          pub write-full : (r.version ≡ 2 ^ 60 - 1 → ⊥) → None ≡ line_at a (writes_of first.work) → 4 ≤ length (writes_of first.work) → Does p w w (Err TooMany) (Write c a v)
+          pub write-full : (r.version ≡ 2 ^ 60 - 1 → ⊥) → is_some (line_at a (writes_of first.work)) ≡ false → 4 ≤ length (writes_of first.work) → Does p w w (Err TooMany) (Write c a v)
           unfolding own
           write-full n new l = refuses p w (Write c a v) in' e TooMany
-              (λ s. protocol-calls.write-full p _ c a v (is_open p first.work _ is) within r (sym found) n (sym new) l)
+              (λ s. protocol-calls.write-full p _ c a v (is_open p first.work _ is) within r (sym found) n (sym (no-line _ new)) l)
 
   module _ (words : (a : ℕ) → Proper (at w.primaries a)) (d : Coordinator) (t : Work) where
     abbrev then : Coordinator
@@ -166,19 +175,20 @@ module _ (p : Plan) (w : World) (c : ℕ) (in' : Inside p w c) (e : Coordinator)
             ∙ ap (λ (ph : protocol.Phase). Ok (record { answer = answered 0 0 Going; after = own_left p w (Write c a v) in' words d ph (next_of then.work.next) (reads_of then.work) ws }))
             (ap (phase_of p then.work) is-then ∙ as-open p then.work))
 
-        pub writes_again : (o : Line) → Some o ≡ line_at a (writes_of first.work)
+        pub writes_again : is_some (line_at a (writes_of first.work)) ≡ true
             → Leaves t then.work.phase then.work.next (reads_of then.work) (rewrite (writes_of then.work) r.address v)
             → Does p w after (Ok (answered 0 0 Going)) (Write c a v)
         unfolding own
-        writes_again o old l =
+        writes_again old l =
+            let o = some-line (line_at a (writes_of first.work)) old in
             writes-left _ l
-            (protocol-calls.writes_again p _ c a v (is_open p then.work _ is-then) within r (reads_then (Some r) found) next o (writes_then (Some o) old))
+            (protocol-calls.writes_again p _ c a v (is_open p then.work _ is-then) within r (reads_then (Some r) found) next o.0 (writes_then (Some o.0) o.1))
 
-        pub writes-new : None ≡ line_at a (writes_of first.work) → length (writes_of first.work) < 4
+        pub writes-new : is_some (line_at a (writes_of first.work)) ≡ false → length (writes_of first.work) < 4
             → Leaves t then.work.phase then.work.next (reads_of then.work) (push (writes_of then.work) (line r.address r.version v))
             → Does p w after (Ok (answered 0 0 Going)) (Write c a v)
         unfolding own
         writes-new new few l =
             let few' : length (writes_of then.work) < 4 = subst (λ (z : Coordinator). length (writes_of z.work) < 4) same few in
             writes-left _ l
-            (protocol-calls.writes-new p _ c a v (is_open p then.work _ is-then) within r (reads_then (Some r) found) next (writes_then None new) few')
+            (protocol-calls.writes-new p _ c a v (is_open p then.work _ is-then) within r (reads_then (Some r) found) next (writes_then None (no-line _ new)) few')

@@ -8,7 +8,7 @@ use Rattle.protocol.specs.declared.plan.Plan.{Plan}
 use Rattle.protocol.specs.declared.record.Line.{Line}
 use Rattle.protocol.specs.declared.call.Call.{Call}
 use Rattle.protocol.specs.declared.call.Outcome.{Outcome}
-use Rattle.protocol.specs.Lists.{counting}
+use Rattle.std.specs.List.{range_with_len}
 use Rattle.protocol.specs.Plan.{machine_list}
 use Rattle.protocol.specs.Coordinator as protocol
 use Rattle.protocol.specs.Coordinator.{is_idle, is_opened}
@@ -117,7 +117,7 @@ keeps-moved t ph = record { next = refl; reads = refl; writes = refl }
 
 -- from the first machine on
 pub all-due : (p : Plan) (test : ℕ → Bool) → due_from p 0 test ≡ filter test (machine_list p)
-all-due p test = ap (λ (n : ℕ). filter test (counting 0 n)) (omega arith)
+all-due p test = ap (λ (n : ℕ). filter test (range_with_len 0 n)) (omega arith)
 
 pub as-open : (p : Plan) (t : Work) → phase_of p t tables.Open ≡ protocol.Opened
 unfolding phase_of

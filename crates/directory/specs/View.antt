@@ -8,7 +8,7 @@ use Rattle.protocol.specs.declared.plan.Plan.{Plan}
 use Rattle.protocol.specs.declared.record.Line.{Line}
 use Rattle.protocol.specs.declared.record.Record.{Record}
 use Rattle.protocol.specs.declared.record.Reply.{Reply}
-use Rattle.protocol.specs.Lists.{counting}
+use Rattle.std.specs.List.{range_with_len}
 use Rattle.protocol.specs.Lines.{Words}
 use Rattle.protocol.specs.LineVec.{listed}
 use Rattle.protocol.specs.Record.{Log, empty_log}
@@ -45,7 +45,7 @@ writes_of t = listed t.writes
 
 -- the machines from d on that pass: those still due a record
 abbrev pub due_from : Plan → ℕ → (ℕ → Bool) → List ℕ
-due_from p d test = filter test (counting d (p.machines - d))
+due_from p d test = filter test (range_with_len d (p.machines - d))
 
 -- the machines whose reply is awaited
 abbrev pub awaited_of : Plan → tables.Locking → List ℕ

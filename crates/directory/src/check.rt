@@ -57,8 +57,7 @@ pub fn check<P: Memory, F: Memory, S: Memory>(
     let Some(current) = is_current(primaries, line) else {
         return Err(Refusal::NoAddress);
     };
-    let own = &mut coordinators[c as usize];
-    let outcome = own.work.note_check(count, current);
+    let outcome = coordinators[c as usize].work.note_check(count, current);
     Ok(Answer {
         first: line.address as u64,
         second: u64::from(current),

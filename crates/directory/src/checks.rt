@@ -72,7 +72,8 @@ pub(crate) fn tables_ok<P: Memory, F: Memory, S: Memory>(
         && seconds.size() == size
 }
 
-// The plan and the tables are fit for a call, and the coordinator is there.
+// The plan and the tables are fit for a call, and the coordinator is there. What a call is lent is not one struct: each call
+// asks for just those tables and memories as `&mut` that it changes, and a struct of references would ask for all of them.
 pub(crate) fn admit<P: Memory, F: Memory, S: Memory>(
     plan: &Plan,
     coordinators: &[Coordinator],

@@ -1,4 +1,5 @@
-// A commit begins: a number is given, and room is kept.
+// A commit begins: a number is given, and room is kept. A plan of at most five machines is asked for, and is not a type of its
+// own: that would be opened again for each function of handling, which take any plan.
 ghost use Rattle.std.specs.Prelude.{◌≡◌, suc, ◌*◌, ◌^◌, ◌<◌, ◌≤◌, [], ◌∷◌, length};
 ghost use Rattle.std.specs.List.{list_all};
 ghost use Rattle.protocol.specs.declared.call.Call.TheVariants.{Commit};
@@ -12,6 +13,7 @@ ghost use Rattle.directory.specs.Work.{StandsFor};
 ghost use Rattle.directory.specs.Calls.{Does};
 
 use crate::checks::admit;
+use crate::slots::slots_of;
 use crate::tables::{Coordinator, Locking, Phase, Work};
 use handling::logs::Log;
 use handling::room::{at_primary, to_write};
@@ -74,28 +76,33 @@ impl Work {
     }
 }
 
-// Every log has room for the commit.
-fn has_room(plan: &Plan, c: u8, own: &Coordinator, records: &[Record]) -> bool
-    requires machines { plan.now.machines ≤ 5 }
-    requires capacity { plan.now.capacity ≤ 16 }
-    requires c { c < plan.now.coordinators }
-    requires records { plan.now.coordinators * plan.now.machines * plan.now.capacity ≤ length records.now }
-    ensures { Rings plan.now own.now → result ≡ list_all (roomy_at plan.now c own.now records.now) (machine_list plan.now) }
-{
-    let places = plan.capacity as usize;
-    for m in 0..plan.machines {
-        let j = m as usize;
-        let block = c as usize * plan.machines as usize + j;
-        let n = to_write(plan, own.work.writes.as_slice(), m);
+impl Coordinator {
+    // The log of machine m has room for all that the commit writes there.
+    fn has_room_at(&self, plan: &Plan, c: u8, records: &[Record], m: u8) -> bool
+        requires machines { plan.now.machines ≤ 5 }
+        requires c { c < plan.now.coordinators }
+        requires m { m < plan.now.machines }
+        requires records { plan.now.coordinators * plan.now.machines * plan.now.capacity ≤ length records.now }
+        ensures { Rings plan.now self.now → result ≡ roomy_at plan.now c self.now records.now m }
+    {
+        let capacity = plan.capacity as usize;
         let log = Log {
-            ring: &own.logs[j],
-            slots: &records[block * places..block * places + places],
+            ring: &self.logs[m as usize],
+            slots: slots_of(plan, c, m, records, capacity),
         };
-        if !log.has_place(n, places) {
-            return false;
-        }
+        let n = to_write(plan, self.work.writes.as_slice(), m);
+        log.has_place(n, capacity)
     }
-    true
+
+    // Every log has room for the commit.
+    fn has_room(&self, plan: &Plan, c: u8, records: &[Record]) -> bool
+        requires machines { plan.now.machines ≤ 5 }
+        requires c { c < plan.now.coordinators }
+        requires records { plan.now.coordinators * plan.now.machines * plan.now.capacity ≤ length records.now }
+        ensures { Rings plan.now self.now → result ≡ list_all (roomy_at plan.now c self.now records.now) (machine_list plan.now) }
+    {
+        (0..plan.machines).all(|m| self.has_room_at(plan, c, records, m))
+    }
 }
 
 // Answers the coordinator's next transaction number; what was written is then locked, else what was read is checked.
@@ -131,12 +138,11 @@ pub fn commit<P: Memory, F: Memory, S: Memory>(
         return Err(Refusal::UsedUp);
     };
     let next = after(number);
-    let true = has_room(plan, c, own, records) else {
+    let true = own.has_room(plan, c, records) else {
         return Err(Refusal::NoRoom);
     };
     let outcome = own.work.first_outcome();
-    let own = &mut coordinators[c as usize];
-    own.work.begin_commit(plan, next);
+    coordinators[c as usize].work.begin_commit(plan, next);
     Ok(Answer {
         first: number,
         second: 0,

@@ -26,6 +26,7 @@ impl Work {
     }
 
     // The lowest machine from `from` on that a record of that kind is due to.
+    #[tactic(auto, using(handling::proofs::Due::found_first))]
     pub(crate) fn machine_due(&self, plan: &Plan, kind: Kind, from: u8) -> Option<u8>
         ensures lowest { result ≡ first_machine (due_from plan.now kind (writes_of self.now) from) }
         ensures within { OfPlan plan.now result }
@@ -37,10 +38,7 @@ impl Work {
     pub(crate) fn last_given(&self) -> u64
         ensures { result ≡ pred (next_of self.now.next) }
     {
-        match self.next {
-            Some(next) => next.saturating_sub(1),
-            None => u64::MAX,
-        }
+        self.next.map_or(u64::MAX, |next| next.saturating_sub(1))
     }
 
     // The record of that kind for machine m.

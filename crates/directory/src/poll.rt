@@ -3,6 +3,8 @@ ghost use Rattle.std.specs.Prelude.{◌≡◌, ◌+◌, ◌<◌, List, length, d
 ghost use Rattle.ring.specs.Contents.{Sound, contents};
 ghost use Rattle.protocol.specs.declared.record.Record.{Record};
 ghost use Rattle.protocol.specs.declared.call.Call.TheVariants.{Poll};
+ghost use Rattle.protocol.specs.declared.call.Outcome.TheVariants.{Going};
+ghost use Rattle.protocol.specs.Call.{answered};
 ghost use Rattle.protocol.specs.Record.{note, number_of};
 ghost use Rattle.handling.specs.Notes.{notes, polled, NextIs};
 ghost use Rattle.directory.specs.View.{log_of, world};
@@ -10,6 +12,7 @@ ghost use Rattle.directory.specs.Polls.{passed_log, replied};
 ghost use Rattle.directory.specs.Calls.{Does};
 
 use crate::checks::admit;
+use crate::slots::{block_of, slots_of};
 use crate::tables::Coordinator;
 use handling::handle::handle;
 use handling::logs::Log;
@@ -28,10 +31,10 @@ fn pass_log(log: &mut Ring, slots: &[Record], kind: Kind)
     match kind {
         Kind::Truncate => {
             let n = log.cursor.saturating_add(1);
-            let _ = log.drop_front(slots, n);
+            log.drop_front(slots, n);
         }
         _ => {
-            let _ = log.advance();
+            log.advance();
         }
     }
 }
@@ -43,6 +46,17 @@ fn answer_lock(queue: &mut Ring, slots: &mut [Reply], number: u64, reply: Option
 {
     if let Some(yes) = reply {
         queue.append(slots, Reply { number, yes });
+    }
+}
+
+// A poll answers the record's kind and a count, and reports nothing.
+fn polled(kind: Kind, count: u64) -> Answer
+    ensures { result ≡ answered (number_of kind) count Going }
+{
+    Answer {
+        first: kind.into(),
+        second: count,
+        outcome: Outcome::Going,
     }
 }
 
@@ -76,27 +90,24 @@ pub fn poll<P: Memory, F: Memory, S: Memory>(
         return Err(Refusal::NoMachine);
     };
     let j = m as usize;
-    let block = c as usize * plan.machines as usize + j;
-    let places = plan.capacity as usize;
-    let slots = &records[block * places..block * places + places];
+    let slots = slots_of(plan, c, m, records, plan.capacity as usize);
     let own = &coordinators[c as usize];
-    let ring = own.logs[j];
-    let log = Log { ring: &ring, slots };
+    let log = Log {
+        ring: &own.logs[j],
+        slots,
+    };
     let Some(found) = log.next() else {
         return Err(Refusal::Nothing);
     };
     let done = handle(plan, c, m, &log, &found, primaries, firsts, seconds);
     let own = &mut coordinators[c as usize];
     pass_log(&mut own.logs[j], slots, found.kind);
+    let block = block_of(plan, c, m);
     answer_lock(
         &mut own.queues[j],
         &mut replies[block * 4..block * 4 + 4],
         found.number,
         done.reply,
     );
-    Ok(Answer {
-        first: found.kind.into(),
-        second: done.count,
-        outcome: Outcome::Going,
-    })
+    Ok(polled(found.kind, done.count))
 }

@@ -1,4 +1,4 @@
-// How a transaction goes on after a reply and after a check.
+// How a transaction goes on after a reply and after a check. A plan of at most five machines is asked for, as in commit.rt.
 ghost use Rattle.std.specs.Prelude.{◌≡◌, ◌<◌, ◌≤◌, not, is_some};
 ghost use Rattle.std.specs.List.{list_all};
 ghost use Rattle.protocol.specs.Lists.{is_empty};
@@ -41,24 +41,21 @@ impl Locking {
 
 impl Work {
     // The word is among those written.
-    fn is_written(&self, address: u16) -> bool
+    pub(crate) fn is_written(&self, address: u16) -> bool
         ensures { result ≡ is_some (line_at address (writes_of self.now)) }
     {
         self.writes.find(address).is_some()
     }
 
     // The next word to check behind the first `passed` reads, one that was not written, with the number of reads up to it.
+    // At most eight words are read, so the numbers do not run out.
     pub(crate) fn next_unwritten(&self, passed: u8) -> Option<(u8, Line)>
         ensures { NextUnwritten self.now passed result }
     {
-        let reads = self.reads.as_slice();
-        for i in passed..reads.len() as u8 {
-            let line = reads[i as usize];
-            if !self.is_written(line.address) {
-                return Some((i + 1, line));
-            }
-        }
-        None
+        (1u8..)
+            .zip(self.reads.as_slice().iter().copied())
+            .skip(passed as usize)
+            .find(|(_, line)| !self.is_written(line.address))
     }
 
     // The words read and not written are checked, and where there are none the backups are due.

@@ -32,7 +32,7 @@ pub fn fresh(first: u64) -> Coordinator
     }
 }
 
-// Puts the version and the value 0 into every word.
+// Puts the version and the value 0 into every word. A memory lends no words to go through, so each is named by its address.
 fn reset<M: Memory>(memory: &mut M, version: u64)
     requires { version < 2 ^ 60 }
     ensures { M.words memory.new ≡ replicate (length (M.words memory.old)) (word version 0 0) }
@@ -56,6 +56,7 @@ pub fn set_up<P: Memory, F: Memory, S: Memory>(
         let after = world coordinators.new records.now replies.now (P.Memory.words primaries.new) (F.Memory.words firsts.new) (S.Memory.words seconds.new) in
         SetsUp plan.now was after result }
 {
+    // the first two checks of every call, and not a function of both: that would need an equation of its own
     let true = plan_ok(plan) else {
         return Err(Refusal::BadPlan);
     };

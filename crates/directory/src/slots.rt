@@ -1,6 +1,7 @@
 // The slots of a coordinator's rings in the tables of records and replies.
 ghost use Rattle.std.specs.Prelude.{◌≡◌, ◌+◌, ◌*◌, ◌≤◌, true, length};
 ghost use Rattle.ring.specs.Contents.{room};
+ghost use Rattle.ring.specs.Rings.{block};
 ghost use Rattle.directory.specs.Slots.{Appended};
 
 use protocol::plan::Plan;
@@ -11,6 +12,15 @@ pub(crate) fn block_of(plan: &Plan, c: u8, m: u8) -> usize
     ensures { result ≡ c * plan.now.machines + m }
 {
     c as usize * plan.machines as usize + m as usize
+}
+
+// Those slots: that block of the table.
+pub(crate) fn slots_of<'a, T>(plan: &Plan, c: u8, m: u8, table: &'a [T], size: usize) -> &'a [T]
+    requires { (c * plan.now.machines + m) * size + size ≤ length table.now }
+    ensures { result.now ≡ block size (c * plan.now.machines + m) table.now }
+{
+    let start = block_of(plan, c, m) * size;
+    &table[start..start + size]
 }
 
 // Appends an entry to a ring with a free slot, whose slots are a block of the table.
@@ -25,5 +35,5 @@ pub(crate) fn append_in<T: Copy>(
     requires room { room ring.old size ≡ true }
     ensures { Appended size block ring.old ring.new table.old table.new entry }
 {
-    let _ = ring.append(&mut table[block * size..block * size + size], entry);
+    ring.append(&mut table[block * size..block * size + size], entry);
 }

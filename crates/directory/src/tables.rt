@@ -4,7 +4,8 @@ ghost use Rattle.std.specs.Prelude.{◌≡◌, length};
 use protocol::lines::LineVec;
 use ring::Ring;
 
-// LOCKs are due to the machines from `due` on; a reply is awaited from each machine that is marked; `denied` once one was no.
+// LOCKs are due to the machines from `due` on; a reply is awaited from each machine that is marked, of five in fixed memory;
+// `denied` once one was no.
 #[derive(Clone, Copy)]
 pub struct Locking {
     pub due: u8,
@@ -35,7 +36,9 @@ pub struct Work {
     pub writes: LineVec<4>,
 }
 
-// A log and a reply queue for each machine: the rings, whose slots stand in the tables of records and replies.
+// A log and a reply queue for each machine: the rings, whose slots stand in the tables of records and replies. There are five
+// machines at most, and the memory is fixed. Two arrays and not one of pairs: each lies over a table of its own, and most calls
+// use one of the two.
 #[derive(Clone, Copy)]
 pub struct Coordinator {
     pub work: Work,

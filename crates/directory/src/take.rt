@@ -4,6 +4,7 @@ ghost use Rattle.directory.specs.View.{world};
 ghost use Rattle.directory.specs.Calls.{Does};
 
 use crate::checks::admit;
+use crate::slots::slots_of;
 use crate::tables::{Coordinator, Phase};
 use memory::interface::Memory;
 use protocol::call::{Answer, Refusal};
@@ -43,15 +44,13 @@ pub fn take<P: Memory, F: Memory, S: Memory>(
     let Phase::Locking(locking) = own.work.phase else {
         return Err(Refusal::WrongPhase);
     };
-    let block = c as usize * plan.machines as usize + m as usize;
-    let slots = &replies[block * 4..block * 4 + 4];
+    let slots = slots_of(plan, c, m, replies, 4);
     let queue = &own.queues[m as usize];
     let Some(reply) = queue.peek(slots, 0) else {
         return Err(Refusal::Nothing);
     };
     let own = &mut coordinators[c as usize];
-    let queue = &mut own.queues[m as usize];
-    queue.drop_front(slots, 1);
+    own.queues[m as usize].drop_front(slots, 1);
     let outcome = own.work.note_reply(plan, locking.replied(m, reply.yes));
     Ok(Answer {
         first: u64::from(reply.yes),

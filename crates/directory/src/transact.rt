@@ -42,8 +42,7 @@ pub fn open<P: Memory, F: Memory, S: Memory>(
     let Phase::Idle = own.work.phase else {
         return Err(Refusal::WrongPhase);
     };
-    let own = &mut coordinators[c as usize];
-    own.work.begin();
+    coordinators[c as usize].work.begin();
     Ok(Answer {
         first: 0,
         second: 0,
@@ -98,8 +97,7 @@ pub fn read<P: Memory, F: Memory, S: Memory>(
     let Some((version, _, value)) = primaries.look(address as usize) else {
         return Err(Refusal::NoAddress);
     };
-    let own = &mut coordinators[c as usize];
-    own.work.note_read(Line {
+    coordinators[c as usize].work.note_read(Line {
         address,
         version,
         value,
@@ -151,24 +149,18 @@ pub fn write<P: Memory, F: Memory, S: Memory>(
     let true = line.version != LAST_VERSION else {
         return Err(Refusal::UsedUp);
     };
-    if let Some(_) = own.work.writes.find(address) {
-        let own = &mut coordinators[c as usize];
-        own.work.note_again(line.address, value);
-        return Ok(Answer {
-            first: 0,
-            second: 0,
-            outcome: Outcome::Going,
-        });
+    if own.work.is_written(address) {
+        coordinators[c as usize]
+            .work
+            .note_again(line.address, value);
+    } else {
+        let true = own.work.writes.len() < 4 else {
+            return Err(Refusal::TooMany);
+        };
+        coordinators[c as usize]
+            .work
+            .note_write(Line { value, ..line });
     }
-    let true = own.work.writes.len() < 4 else {
-        return Err(Refusal::TooMany);
-    };
-    let own = &mut coordinators[c as usize];
-    own.work.note_write(Line {
-        address: line.address,
-        version: line.version,
-        value,
-    });
     Ok(Answer {
         first: 0,
         second: 0,
@@ -205,8 +197,7 @@ pub fn abandon<P: Memory, F: Memory, S: Memory>(
     let Phase::Open = own.work.phase else {
         return Err(Refusal::WrongPhase);
     };
-    let own = &mut coordinators[c as usize];
-    own.work.rest();
+    coordinators[c as usize].work.rest();
     Ok(Answer {
         first: 0,
         second: 0,

@@ -4,7 +4,7 @@ ghost use Rattle.directory.specs.View.{world};
 ghost use Rattle.directory.specs.Calls.{Does};
 
 use crate::checks::admit;
-use crate::slots::{append_in, block_of};
+use crate::slots::{append_in, block_of, slots_of};
 use crate::tables::{Coordinator, Phase};
 use handling::logs::Log;
 use memory::interface::Memory;
@@ -45,10 +45,9 @@ pub fn trim<P: Memory, F: Memory, S: Memory>(
     let (Phase::Idle | Phase::Open) = own.work.phase else {
         return Err(Refusal::WrongPhase);
     };
-    let block = block_of(plan, c, m);
     let capacity = plan.capacity as usize;
     let ring = &own.logs[m as usize];
-    let slots = &records[block * capacity..block * capacity + capacity];
+    let slots = slots_of(plan, c, m, records, capacity);
     let true = (Log { ring, slots }).is_untrimmed() else {
         return Err(Refusal::Nothing);
     };
@@ -59,7 +58,13 @@ pub fn trim<P: Memory, F: Memory, S: Memory>(
     let number = own.work.last_given();
     let sent = own.work.record_due(plan, c, Kind::Truncate, m);
     let own = &mut coordinators[c as usize];
-    append_in(&mut own.logs[m as usize], records, block, capacity, sent);
+    append_in(
+        &mut own.logs[m as usize],
+        records,
+        block_of(plan, c, m),
+        capacity,
+        sent,
+    );
     Ok(Answer {
         first: number,
         second: 0,

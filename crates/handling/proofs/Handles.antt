@@ -1,6 +1,6 @@
 -- What the lines of a record do, as the functions on lines ensure it.
-use Rattle.std.proofs.Common.{◌≡◌, ℕ, suc, ◌+◌, ◌^◌, ◌<◌, min, Bool, true, false, cond, List, [], ◌∷◌, reverse, length, take, Some, sym, refl, ap, ◌∙◌, subst, arith}
-use Rattle.std.specs.List.{AllByRecursion, list_all, find}
+use Rattle.std.proofs.Common.{◌≡◌, ℕ, suc, ◌+◌, ◌^◌, ◌<◌, min, Bool, true, false, cond, List, [], ◌∷◌, reverse, length, take, Some, sym, ap, ◌∙◌, subst, arith}
+use Rattle.std.specs.List.{AllByRecursion, find}
 use Rattle.std.proofs.ByRecursion.{All-append, All-take}
 use Rattle.std.proofs.lemmas.List.{reverse-append}
 use Rattle.std.proofs.lemmas.Bool.{and_from, lt-ltb}
@@ -10,13 +10,13 @@ use Rattle.protocol.specs.declared.plan.Plan.{Plan}
 use Rattle.protocol.specs.declared.record.Line.{Line}
 use Rattle.protocol.specs.declared.record.Record.{Record}
 use Rattle.protocol.specs.Plan.{size}
-use Rattle.protocol.specs.Lines.{Words, is_current, lock_lines, held_lines, free_lines}
+use Rattle.protocol.specs.Lines.{Words, held_lines, free_lines}
 use Rattle.protocol.specs.Record.{Note}
 use Rattle.protocol.specs.Poll.{is_lock_of, lines_of, locked_lines}
 use Rattle.protocol.specs.Kept.{Lines, Apart}
 use Rattle.handling.specs.Fitting.{Fit}
 use Rattle.handling.specs.Notes.{notes, polled}
-use Rattle.handling.specs.Handling.{effect, SoundLog, HandlesLock}
+use Rattle.handling.specs.Handling.{SoundLog}
 
 module _ {X : Type 0} (P : X → Type 0) where
   pub all-reverse : (xs : List X) → AllByRecursion P xs → AllByRecursion P (reverse xs)
@@ -62,25 +62,3 @@ module _ (p : Plan) (lent : List Line) (ws ws' : Words) (good : Lines p lent) (l
     pub released : (r : ℕ) → (AllByRecursion (Fit (length ws)) lent → Apart lent → holds h ≡ true → (ws' ≡ free_lines ws (held_lines ws h lent)) × (r ≡ length (held_lines ws h lent)))
         → (ws' ≡ free_lines ws (held_lines ws (suc c) lent)) × (r ≡ length (held_lines ws (suc c) lent))
     released r told = subst (λ (n : ℕ). (ws' ≡ free_lines ws (held_lines ws n lent)) × (r ≡ length (held_lines ws n lent))) held-as (told fit good.apart held)
-
-    locked : (granted : Bool) → ws' ≡ cond granted (lock_lines ws h lent) ws → (AllByRecursion (Fit (length ws)) lent → holds h ≡ true → granted ≡ list_all (is_current ws) lent)
-        → effect (cond granted (length lent) 0) (Some granted) ws' [] [] ≡ cond (list_all (is_current ws) lent) (effect (length lent) (Some true) (lock_lines ws (suc c) lent) [] []) (effect 0 (Some false) ws [] [])
-    locked granted after told =
-        let left : ws' ≡ cond granted (lock_lines ws (suc c) lent) ws = after ∙ ap (λ (n : ℕ). cond granted (lock_lines ws n lent) ws) held-as in
-        ap (λ (vs : Words). effect (cond granted (length lent) 0) (Some granted) vs [] []) left
-        ∙ by_cases granted
-        ∙ ap (λ (b : Bool). cond b (effect (length lent) (Some true) (lock_lines ws (suc c) lent) [] []) (effect 0 (Some false) ws [] [])) (told fit held)
-      where
-        by_cases : (b : Bool) → effect (cond b (length lent) 0) (Some b) (cond b (lock_lines ws (suc c) lent) ws) [] [] ≡ cond b (effect (length lent) (Some true) (lock_lines ws (suc c) lent) [] []) (effect 0 (Some false) ws [] [])
-        by_cases true = refl
-        by_cases false = refl
-
--- a LOCK, whose lines were lent
-pub handles-lock : (p : Plan) (x : Note) (lent : List Line) → lent ≡ x.lines → (ws ws' : Words) (c h : ℕ) → h ≡ min (c + 1) 255 → (granted : Bool) (n : ℕ) → n ≡ cond granted (length lent) 0
-    → ws' ≡ cond granted (lock_lines ws h lent) ws → (AllByRecursion (Fit (length ws)) lent → holds h ≡ true → granted ≡ list_all (is_current ws) lent)
-    → HandlesLock p c x ws ws' (record { count = n; reply = Some granted })
-handles-lock p x lent is ws ws' c h h-is granted n counts after told =
-    subst
-    (λ (ls : List Line). Lines p ls → length ws ≡ size p → c < 15 → effect n (Some granted) ws' [] [] ≡ cond (list_all (is_current ws) ls) (effect (length ls) (Some true) (lock_lines ws (suc c) ls) [] []) (effect 0 (Some false) ws [] []))
-    is
-    (λ good long few. ap (λ (k : ℕ). effect k (Some granted) ws' [] []) counts ∙ locked p lent ws ws' good long c h h-is few granted after told)

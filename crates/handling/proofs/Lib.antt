@@ -7,7 +7,6 @@ pub mod Due
 pub mod Freeing
 pub mod Handles
 pub mod Installing
-pub mod Locked
 pub mod Locking
 pub mod Newest
 pub mod Finding

@@ -1,7 +1,6 @@
 -- What a peek into a ring says of the records of its log.
-use Rattle.std.proofs.Common.{◌≡◌, ℕ, zero, suc, ◌<◌, List, [], ◌∷◌, map, length, drop, Some, None, Option, refl, ap, ◌∙◌, add-one, arith}
+use Rattle.std.proofs.Common.{◌≡◌, ℕ, zero, suc, List, [], ◌∷◌, map, length, drop, Some, None, Option, refl, ap, ◌∙◌, add-one, arith}
 use lib.ListN.{length-map}
-use Rattle.std.proofs.lemmas.List.{length-drop}
 use Rattle.std.specs.List.{slice_get}
 use Rattle.ring.specs.declared.Ring.{Ring}
 use Rattle.ring.specs.Contents.{contents, Sound}
@@ -31,11 +30,3 @@ peek-next r slots i got e = next-is (contents r slots) i got e
 -- as many records as entries
 pub length-notes : (r : Ring) (slots : List Record) → Sound r (length slots) → length (notes r slots) ≡ r.len
 length-notes r slots s = length-map (contents r slots) note ∙ length-contents r slots s.head s.len
-
--- where there is a record, it is one of the entries
-pub next-below : (r : Ring) (slots : List Record) (i : ℕ) (x : Record) → Sound r (length slots) → NextIs (notes r slots) i (Some x) → i < r.len
-next-below r slots i x s e = omega (arith, length-drop i (notes r slots), ap length e, length-notes r slots s)
-
--- and below their number there is one
-pub peek-there : (r : Ring) (slots : List Record) (i : ℕ) → Sound r (length slots) → i < r.len → NextIs (notes r slots) i None → ⊥
-peek-there r slots i s l e = omega (arith, length-drop i (notes r slots), ap length e, length-notes r slots s)

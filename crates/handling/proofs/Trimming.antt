@@ -1,18 +1,13 @@
 -- The last record of a log says whether a TRUNCATE stands behind all.
-use Rattle.std.proofs.Common.{◌≡◌, ℕ, zero, suc, ◌-◌, ◌<◌, false, not, List, [], ◌∷◌, length, drop, refl, ap, arith}
+use Rattle.std.proofs.Common.{◌≡◌, not, List, [], ◌∷◌, ◌++◌, map, refl, ap, ◌∙◌}
 use Rattle.protocol.specs.declared.record.Kind.TheVariants.{Truncate}
-use Rattle.protocol.specs.Record.{Note, kind_eq, is_untrimmed}
+use Rattle.protocol.specs.declared.record.Record.{Record}
+use Rattle.protocol.specs.Record.{note, kind_eq, is_untrimmed}
 
-last-at : (ns : List Note) (i : ℕ) (x : Note) (rest : List Note) → length ns ≡ suc i → drop i ns ≡ x ∷ rest → is_untrimmed ns ≡ not (kind_eq x.kind Truncate)
-last-at [] i x rest l e = absurd (omega arith)
-last-at (n ∷ []) zero x rest l e = let same : n ≡ x = cc in ap (λ (z : Note). not (kind_eq z.kind Truncate)) same
-last-at (n ∷ []) (suc i) x rest l e = absurd (omega arith)
-last-at (n ∷ o ∷ ns) zero x rest l e = absurd (omega arith)
-last-at (n ∷ o ∷ ns) (suc i) x rest l e = last-at (o ∷ ns) i x rest (omega arith) e
+behind : (before : List Record) (x : Record) → is_untrimmed (map note (before ++ x ∷ [])) ≡ not (kind_eq (note x).kind Truncate)
+behind [] x = refl
+behind (y ∷ []) x = refl
+behind (y ∷ z ∷ before) x = behind (z ∷ before) x
 
-pub untrimmed-last : (ns : List Note) (k : ℕ) (x : Note) (rest : List Note) → length ns ≡ k → 0 < k → drop (k - 1) ns ≡ x ∷ rest → is_untrimmed ns ≡ not (kind_eq x.kind Truncate)
-untrimmed-last ns k x rest l pos e = last-at ns (k - 1) x rest (omega arith) e
-
-pub untrimmed-none : (ns : List Note) → length ns ≡ 0 → is_untrimmed ns ≡ false
-untrimmed-none [] l = refl
-untrimmed-none (n ∷ ns) l = absurd (omega arith)
+pub untrimmed_last : (xs before : List Record) (x : Record) → xs ≡ before ++ x ∷ [] → is_untrimmed (map note xs) ≡ not (kind_eq (note x).kind Truncate)
+untrimmed_last xs before x e = ap (λ zs. is_untrimmed (map note zs)) e ∙ behind before x

@@ -9,7 +9,7 @@ use Rattle.protocol.specs.declared.plan.Plan.{Plan}
 use Rattle.protocol.specs.declared.record.Line.{Line}
 use Rattle.protocol.specs.declared.record.Record.{Record}
 use Rattle.protocol.specs.declared.record.Kind.{Kind}
-use Rattle.protocol.specs.declared.record.Kind.TheVariants.{Lock, CommitBackup, CommitPrimary, Abort, Truncate}
+use Rattle.protocol.specs.declared.record.Kind.TheVariants.{CommitBackup}
 use Rattle.protocol.specs.Plan.{size}
 use Rattle.protocol.specs.Lines.{Words, put, is_newer, renew, Backups, backups, back_up}
 use Rattle.protocol.specs.Record.{Note, note, kind_eq}
@@ -61,24 +61,6 @@ backs-up-lines p m x kind f s f' s' r part is short few ls did fits =
           ∙ ap (λ (zs : List Line). back_up_lines p m zs (backups n f s)) (is ∙ sym (backup_lines-of x kind));
     }
 
-no_lines : (x : Record) (k : Kind) → x.kind ≡ k → (x.kind ≡ CommitBackup → ⊥) → backup_part (note x) ≡ []
-no_lines x Lock e n = ap (λ (z : Kind). cond (kind_eq z CommitBackup) (note x).lines []) e
-no_lines x CommitBackup e n = absurd (n e)
-no_lines x CommitPrimary e n = ap (λ (z : Kind). cond (kind_eq z CommitBackup) (note x).lines []) e
-no_lines x Abort e n = ap (λ (z : Kind). cond (kind_eq z CommitBackup) (note x).lines []) e
-no_lines x Truncate e n = ap (λ (z : Kind). cond (kind_eq z CommitBackup) (note x).lines []) e
-
--- any other record puts nothing
-pub backs-up-none : (p : Plan) (m : ℕ) (x : Record) (f s : Words) → (x.kind ≡ CommitBackup → ⊥) → BacksUp p m (note x) f s f s 0
-backs-up-none p m x f s n = record {
-  few = omega arith;
-  firsts = refl;
-  seconds = refl;
-  after = λ _ _ _ i.
-      ap (λ (j : ℕ). backups j f s) (omega arith)
-      ∙ ap (λ (zs : List Line). back_up_lines p m zs (backups i f s)) (sym (no_lines x x.kind refl n));
-}
-
 -- the polled records, the oldest first
 abbrev pub in_order : Ring → List Record → List Note
 in_order log slots = take log.cursor (notes log slots)
@@ -120,6 +102,3 @@ module _ (p : Plan) (m i : ℕ) (log : Ring) (slots : List Record) (f s : Words)
         let fits : puts' ≡ puts + r =
         omega (arith, count, here.0, length-take log.cursor (notes log slots), length-notes log slots good.0.stands, good.0.stands.len, good.0.few, before.few, did.few) in
         subst (λ (n : ℕ). BackedUp p m n (in_order log slots) f s a' b' puts') (sym next) (subst (BackedUp p m (i + 1) (in_order log slots) f s a' b') (sym fits) more)
-
-pub backed-none : (p : Plan) (m : ℕ) (ns : List Note) (f s : Words) → BackedUp p m 0 ns f s f s 0
-backed-none p m ns f s = record { few = omega arith; firsts = refl; seconds = refl; after = refl }

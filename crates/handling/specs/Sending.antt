@@ -5,7 +5,7 @@ use Rattle.protocol.specs.declared.plan.Plan.{Plan}
 use Rattle.protocol.specs.declared.record.Line.{Line}
 use Rattle.protocol.specs.declared.record.Kind.{Kind}
 use Rattle.protocol.specs.declared.record.Kind.TheVariants.{Lock, CommitBackup, CommitPrimary, Abort, Truncate}
-use Rattle.protocol.specs.Lists.{counting}
+use Rattle.std.specs.List.{range_with_len}
 use Rattle.protocol.specs.Plan.{home_of}
 use Rattle.protocol.specs.Record.{Note}
 use Rattle.protocol.specs.Room.{primary_lines, backup_lines, is_backup, is_at_primary, is_at_backup, regions_byte, one_if}
@@ -24,7 +24,7 @@ is_due p Truncate ws = λ m. false
 
 -- the machines from d on that are due one, the lowest first
 abbrev pub due_from : Plan → Kind → List Line → ℕ → List ℕ
-due_from p kind ws d = filter (is_due p kind ws) (counting d (p.machines - d))
+due_from p kind ws d = filter (is_due p kind ws) (range_with_len d (p.machines - d))
 
 -- the lowest of them, if there is any
 abbrev pub first_machine : List ℕ → Option ℕ

@@ -1,4 +1,5 @@
-// What a machine does with the record that it polls.
+// What a machine does with the record that it polls. What the log and the memories must be is a premise of each clause, since a
+// call returns on any tables; the two backup memories stay two parameters, as in lines.rt.
 ghost use Rattle.std.specs.Prelude.{◌≡◌, suc, ◌<◌, length};
 ghost use Rattle.protocol.specs.Record.{note};
 ghost use Rattle.protocol.specs.Plan.{size};

@@ -1,4 +1,6 @@
-// What the lines of a record do to the memories. A line that does not fit a memory is passed over.
+// What the lines of a record do to the memories. A line that does not fit a memory is passed over. The loops that count differ
+// in what they do to which memory: one function over a closure would have to say what any closure does to any memory, line by
+// line, and that is longer than the loops. That the lines fit is a premise of a clause, since a call returns on any tables.
 ghost use Rattle.std.specs.Prelude.{◌≡◌, ℕ, ◌+◌, ◌≤◌, true, ◌&&◌, length, if◌then◌else◌};
 ghost use Rattle.std.specs.List.{AllByRecursion, list_all};
 ghost use Rattle.memory.specs.Words.{holds, lockable, freeable};
@@ -20,7 +22,7 @@ fn can_lock<M: Memory>(memory: &M, line: &Line, holder: u8) -> bool
     let Some((version, held, _)) = memory.look(line.address as usize) else {
         return false;
     };
-    held == 0 && version == line.version && holder >= 1 && holder <= 15
+    held == 0 && version == line.version && (1..=15).contains(&holder)
 }
 
 // Locks every line for the holder, or none where one cannot be locked.
@@ -100,7 +102,9 @@ fn renew_line<M: Memory>(memory: &mut M, line: &Line) -> bool
     install_line(memory, line)
 }
 
-// Puts the line into the backup that machine m has of its word, the first or else the second, where it is newer.
+// Puts the line into the backup that machine m has of its word, the first or else the second, where it is newer. The two
+// memories stay two parameters: a struct of two `&mut` of any two makes would be put together at each call, and each clause
+// would name its two words all the same.
 fn back_up_line<F: Memory, S: Memory>(
     plan: &Plan,
     m: u8,

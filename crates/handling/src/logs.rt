@@ -4,16 +4,17 @@ ghost use Rattle.std.specs.List.{find};
 ghost use Rattle.ring.specs.Contents.{Sound, contents};
 ghost use Rattle.ring.specs.Left.{left};
 ghost use Rattle.protocol.specs.LineVec.{listed};
-ghost use Rattle.protocol.specs.Record.{note, is_untrimmed};
+ghost use Rattle.protocol.specs.declared.record.Kind.TheVariants.{Truncate};
+ghost use Rattle.protocol.specs.Record.{note, kind_eq, is_untrimmed};
 ghost use Rattle.protocol.specs.Poll.{is_lock_of, locked_lines};
 ghost use Rattle.handling.specs.Notes.{notes, polled, noted, NextIs};
 
 use protocol::lines::LineVec;
 use protocol::record::{Kind, Record};
-use ring::Ring;
-use ring::entries::Entries;
+use ring::{Entries, Ring};
 
-// A log: its ring, and the slots that its records lie in.
+// A log: its ring, and the slots that its records lie in. That the ring is sound is a premise of what the methods promise and
+// not a ghost field, since a call returns on any tables that it is lent.
 #[derive(Clone, Copy)]
 pub struct Log<'a> {
     pub ring: &'a Ring,
@@ -56,23 +57,18 @@ impl<'a> Log<'a> {
     pub fn locked_lines(&self, number: u64) -> LineVec<4>
         ensures { Sound self.now.ring.now (length self.now.slots.now) → listed result ≡ locked_lines number (polled self.now.ring.now self.now.slots.now) }
     {
-        match self.find_lock(number) {
-            Some(entry) => entry.lines,
-            None => LineVec::new(),
-        }
+        self.find_lock(number)
+            .map_or(LineVec::new(), |entry| entry.lines)
     }
 
     // The last record is no TRUNCATE.
     pub fn is_untrimmed(&self) -> bool
         ensures { Sound self.now.ring.now (length self.now.slots.now) → result ≡ is_untrimmed (notes self.now.ring.now self.now.slots.now) }
     {
-        if self.ring.len == 0 {
-            return false;
-        }
-        let Some(last) = self.record(self.ring.len - 1) else {
+        let Some(last) = self.ring.entries(self.slots).next_back() else {
             return false;
         };
-        last.kind != Kind::Truncate
+        !is_truncate(last)
     }
 }
 
@@ -80,4 +76,10 @@ fn is_lock_of(entry: &Record, number: u64) -> bool
     ensures { result ≡ is_lock_of number (note entry.now) }
 {
     entry.kind == Kind::Lock && entry.number == number
+}
+
+fn is_truncate(entry: &Record) -> bool
+    ensures { result ≡ kind_eq (note entry.now).kind Truncate }
+{
+    entry.kind == Kind::Truncate
 }

@@ -1,4 +1,6 @@
-// The records that a coordinator sends.
+// The records that a coordinator sends. The plan and the lines stay two parameters: both are at hand where a function is
+// called, and a struct of the two would be put together at each call. That the lines lie in eight regions is a premise of a clause,
+// since a call returns on any tables.
 ghost use Rattle.std.specs.Prelude.{◌≡◌, ◌-◌, ◌/◌, ◌^◌, ◌<◌, ◌≤◌, length};
 ghost use Rattle.std.specs.List.{find, range_with_len};
 ghost use Rattle.protocol.specs.LineVec.{listed};

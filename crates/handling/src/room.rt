@@ -1,4 +1,5 @@
-// Where lines belong, and whether a commit finds room in its coordinator's logs.
+// Where lines belong, and whether a commit finds room in its coordinator's logs. A plan and lines are two parameters, as in
+// records.rt.
 ghost use Rattle.std.specs.Prelude.{◌≡◌, ◌+◌, ◌≤◌, not, ◌||◌, length, ◌==◌, nat_le};
 ghost use Rattle.ring.specs.Contents.{Sound};
 ghost use Rattle.protocol.specs.Plan.{home_of};
@@ -49,6 +50,7 @@ fn has_picked(plan: &Plan, kind: Kind, m: u8, lines: &[Line]) -> bool
 }
 
 // A line has its primary on machine m: the LOCK for m has lines.
+#[tactic(auto, using(crate::proofs::Looking::any_is))]
 pub fn at_primary(plan: &Plan, lines: &[Line], m: u8) -> bool
     ensures { result ≡ is_at_primary plan.now lines.now m }
 {
@@ -56,6 +58,7 @@ pub fn at_primary(plan: &Plan, lines: &[Line], m: u8) -> bool
 }
 
 // A line has a backup on machine m: the COMMIT-BACKUP for m has lines.
+#[tactic(auto, using(crate::proofs::Looking::any_is))]
 pub fn at_backup(plan: &Plan, lines: &[Line], m: u8) -> bool
     ensures { result ≡ is_at_backup plan.now lines.now m }
 {
@@ -83,7 +86,7 @@ fn are_free(len: usize, n: usize, untrimmed: bool, capacity: usize) -> bool
 }
 
 impl<'a> Log<'a> {
-    // The log has room for n records more, and for a TRUNCATE where one is then wanted.
+    // The log has room for n records more, and for a TRUNCATE where one is then wanted, if it may grow to that many.
     pub fn has_place(&self, n: usize, capacity: usize) -> bool
         ensures { Sound self.now.ring.now (length self.now.slots.now) → result ≡ nat_le (length (notes self.now.ring.now self.now.slots.now) + with_trim n (notes self.now.ring.now self.now.slots.now)) capacity }
     {

@@ -1,3 +1,4 @@
+pub mod Changing
 pub mod Laws
 pub mod Make
 pub mod Meanings

@@ -1,6 +1,7 @@
-ghost use Rattle.std.specs.Prelude.{◌≡◌, ℕ, ◌<◌, ◌≤◌, List, length, slice_set};
+ghost use Rattle.std.specs.Prelude.{◌≡◌, ℕ, ◌<◌, ◌≤◌, List, length, slice_set, Some};
 ghost use Rattle.memory.specs.declared.word.Word.{Word};
 ghost use Rattle.memory.specs.Words.{at, Proper};
+ghost use Rattle.memory.specs.Changing.{Changes};
 
 use crate::interface::Memory;
 use crate::word::{VERSION_END, Word};
@@ -29,6 +30,22 @@ pub trait Store {
     ghost proper: { (s : Self) (a : ℕ) → Proper (at (words s) a) };
 }
 
+// Writes what `next` makes of the word at an address, or answers false where there is no word or nothing is made of it.
+fn change<S: Store, F: FnOnce(Word) -> Option<Word>>(store: &mut S, address: usize, next: F) -> bool
+    requires callable { F.IsAlwaysCallable next }
+    requires proper { (w : Word) → F.post next (at (S.Store.words store.old) address) (Some w) → Proper w }
+    ensures { Changes (F.post next) (S.Store.words store.old) address result (S.Store.words store.new) }
+{
+    if address >= store.count() {
+        return false;
+    }
+    let Some(w) = next(store.word(address)) else {
+        return false;
+    };
+    store.set_word(address, w);
+    true
+}
+
 impl<S: Store> Memory for S {
     ghost words = { S.Store.words };
 
@@ -48,34 +65,20 @@ impl<S: Store> Memory for S {
     }
 
     fn lock(&mut self, address: usize, version: u64, holder: u8) -> bool {
-        if address >= self.count() {
-            return false;
-        }
-        let w = self.word(address);
-        if !w.is_free_at(version, holder) {
-            return false;
-        }
-        self.set_word(address, w.held_by(holder));
-        true
+        change(self, address, |w| {
+            w.is_free_at(version, holder).then(|| w.held_by(holder))
+        })
     }
 
     fn put(&mut self, address: usize, version: u64, value: u64) -> bool {
-        if address >= self.count() || version >= VERSION_END {
-            return false;
-        }
-        self.set_word(address, Word::free(version, value));
-        true
+        change(self, address, |_| {
+            (version < VERSION_END).then(|| Word::free(version, value))
+        })
     }
 
     fn free(&mut self, address: usize, holder: u8) -> bool {
-        if address >= self.count() {
-            return false;
-        }
-        let w = self.word(address);
-        if !w.is_held_as(holder) {
-            return false;
-        }
-        self.set_word(address, w.held_by(0));
-        true
+        change(self, address, |w| {
+            w.is_held_as(holder).then(|| w.held_by(0))
+        })
     }
 }

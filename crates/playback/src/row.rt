@@ -6,7 +6,8 @@ ghost use Rattle.playback.specs.Rows.{Shows, text};
 use protocol::call::{Answer, Call, Refusal};
 use std::fmt;
 
-// An answer as it is printed: the refusal's number or 0, two numbers, and the outcome's number.
+// An answer as it is printed: the refusal's number or 0, two numbers, and the outcome's number. They are what is printed; a
+// program that goes on with an answer has its `Result`.
 #[derive(Clone, Copy, Debug, Default, PartialEq, Eq)]
 pub struct Row {
     pub refusal: u8,
@@ -46,7 +47,8 @@ impl fmt::Display for Row {
     }
 }
 
-// The call's name in the output.
+// The call's name in the output. A function and no `Display`: a call is a type of protocol's, and how it is printed is this
+// crate's matter.
 pub fn name(call: Call) -> &'static str
     ensures { result.now ≡ name_of call }
 {

@@ -1,7 +1,6 @@
 // The lines that a step file is answered with.
 use crate::row::{Row, name};
 use memory::cells::Cells;
-use memory::make::Rejected;
 use protocol::call::{Answer, Outcome};
 use protocol::plan::Plan;
 use service::make::Unmade;
@@ -12,7 +11,7 @@ use steps::decode::Step;
 use steps::fault::{EntryFault, RunFault};
 use steps::sequence::Steps;
 
-type House = Directory<Cells, Cells, Cells>;
+type OfCells = Directory<Cells, Cells, Cells>;
 
 // Why a file is not played to its end.
 enum Stop {
@@ -41,15 +40,12 @@ fn unmade(cause: Unmade, place: usize) -> Stop {
 }
 
 // A directory of the plan over three memories of cells.
-fn house(heap: Global, plan: Plan) -> Result<House, Unmade> {
+fn directory(heap: Global, plan: Plan) -> Result<OfCells, Unmade> {
     let n = 64 * plan.regions as usize;
     let primaries = Cells::new(heap, n)?;
     let firsts = Cells::new(heap, n)?;
     let seconds = Cells::new(heap, n)?;
-    match Directory::new(heap, plan, primaries, firsts, seconds) {
-        Ok(house) => Ok(house),
-        Err(Rejected { error, given: _ }) => Err(error),
-    }
+    Directory::new(heap, plan, primaries, firsts, seconds).map_err(|r| r.error)
 }
 
 // The set-up, and then the other entries.
@@ -62,10 +58,7 @@ fn play(heap: Global, out: &mut String, bytes: &[u8]) -> Result<(), Stop> {
     let Step::SetUp(plan) = first.step else {
         return Ok(());
     };
-    let mut house = match house(heap, plan) {
-        Ok(house) => house,
-        Err(cause) => return Err(unmade(cause, first.place)),
-    };
+    let mut directory = directory(heap, plan).map_err(|cause| unmade(cause, first.place))?;
     let ready = Row::from(Ok(Answer {
         first: 64 * plan.regions as u64,
         second: 0,
@@ -77,7 +70,7 @@ fn play(heap: Global, out: &mut String, bytes: &[u8]) -> Result<(), Stop> {
             return Ok(());
         };
         let name = name(call);
-        let row = Row::from(house.call(call));
+        let row = Row::from(directory.call(call));
         writeln!(out, "{entry} {name} {row}")?;
     }
     Ok(())

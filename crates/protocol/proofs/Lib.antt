@@ -19,4 +19,3 @@ pub mod Puts
 pub mod Tests
 pub mod Transacts
 pub mod Counting
-pub mod Begins

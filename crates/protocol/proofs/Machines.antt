@@ -10,7 +10,7 @@ use Rattle.protocol.specs.State.{Local}
 use Rattle.protocol.specs.Call.{Accepted}
 use Rattle.protocol.specs.Commit.{first_phase, after_backup, after_install, after_abort, after_checks, after_failed, read_only}
 use Rattle.protocol.specs.Kept.{Invariant, Rising, machines_due}
-use Rattle.protocol.proofs.Members.{rising-rest, rising-filter, rising-counting}
+use Rattle.protocol.proofs.Members.{rising-rest, rising-filter, rising-range}
 use Rattle.protocol.proofs.Moves.{Move, opens, reads-again, reads-new, writes_again, writes-new, abandons, commits, sends-lock, sends-backup, sends-primary, sends-abort, locks, denies, keeps-backup, installs, frees, truncates, takes_one, takes-denied, takes-last, check-fails, check-passes, check-commits, check-ends, trims}
 
 module _ (p : Plan) where
@@ -19,7 +19,7 @@ module _ (p : Plan) where
   Listed ms = Rising 0 p.machines ms
 
   listed : Listed (machine_list p)
-  listed = rising-counting 0 p.machines p.machines (omega arith)
+  listed = rising-range 0 p.machines p.machines (omega arith)
 
   pub primaries-listed : (ws : List Line) → Listed (primary_machines p ws)
   primaries-listed ws = rising-filter (is_at_primary p ws) 0 p.machines (machine_list p) listed

@@ -2,15 +2,16 @@
 use Rattle.std.proofs.Common.{◌≡◌, ℕ, zero, suc, ◌+◌, ◌<◌, ◌≤◌, Bool, true, false, cond, not, ◌||◌, eqb, ◌≢◌, List, [], ◌∷◌, sym, refl, ap, ◌∙◌, ⊎_elim, arith}
 use Rattle.std.specs.List.{filter, list_all}
 use Rattle.std.proofs.lemmas.Bool.{and_parts, cases_eq, eq-eqb, ne_eqb}
-use Rattle.protocol.specs.Lists.{counting, is_member, without}
+use Rattle.protocol.specs.Lists.{is_member, without}
+use Rattle.std.specs.List.{range_with_len}
 use Rattle.protocol.specs.Kept.{Rising}
 
 -- a test that all counted numbers pass, one of them passes
-pub counted-passes : (test : ℕ → Bool) (i n m : ℕ) → i ≤ m → m < i + n → list_all test (counting i n) ≡ true → test m ≡ true
+pub counted-passes : (test : ℕ → Bool) (i n m : ℕ) → i ≤ m → m < i + n → list_all test (range_with_len i n) ≡ true → test m ≡ true
 counted-passes test i zero m l u e = absurd (omega arith)
 counted-passes test i (suc n) m l u e =
-    let both = and_parts (test i) (list_all test (counting (suc i) n)) e in
-    ⊎_elim (λ q. ap test q ∙ both.0) (λ q. counted-passes test (suc i) n m (omega arith) (omega arith) both.1) (cases_eq m i)
+    let both = and_parts (test i) (list_all test (range_with_len (i + 1) n)) e in
+    ⊎_elim (λ q. ap test q ∙ both.0) (λ q. counted-passes test (i + 1) n m (omega arith) (omega arith) both.1) (cases_eq m i)
 
 pub member-first : (m : ℕ) (ms : List ℕ) → is_member m (m ∷ ms) ≡ true
 member-first m ms = ap (λ t. t || is_member m ms) (eq-eqb m m refl)
@@ -28,15 +29,15 @@ kept-first false m n ns e absent = absent
 
 -- The counted numbers that pass a test.
 module _ (test : ℕ → Bool) where
-  counted-above : (i n m : ℕ) → m < i → is_member m (filter test (counting i n)) ≡ false
+  counted-above : (i n m : ℕ) → m < i → is_member m (filter test (range_with_len i n)) ≡ false
   counted-above i zero m l = refl
-  counted-above i (suc n) m l = kept-later (test i) m i _ (λ q. omega arith) ∙ counted-above (suc i) n m (omega arith)
+  counted-above i (suc n) m l = kept-later (test i) m i _ (λ q. omega arith) ∙ counted-above (i + 1) n m (omega arith)
 
-  pub member-counted : (i n m : ℕ) → i ≤ m → m < i + n → is_member m (filter test (counting i n)) ≡ test m
+  pub member-counted : (i n m : ℕ) → i ≤ m → m < i + n → is_member m (filter test (range_with_len i n)) ≡ test m
   member-counted i zero m l u = absurd (omega arith)
   member-counted i (suc n) m l u = ⊎_elim
-      (λ q. kept-first (test i) m i (filter test (counting (suc i) n)) q (counted-above (suc i) n m (omega arith)) ∙ ap test (sym q))
-      (λ q. kept-later (test i) m i (filter test (counting (suc i) n)) q ∙ member-counted (suc i) n m (omega arith) (omega arith))
+      (λ q. kept-first (test i) m i (filter test (range_with_len (i + 1) n)) q (counted-above (i + 1) n m (omega arith)) ∙ ap test (sym q))
+      (λ q. kept-later (test i) m i (filter test (range_with_len (i + 1) n)) q ∙ member-counted (i + 1) n m (omega arith) (omega arith))
       (cases_eq m i)
 
 -- Without m, m is not there, and the others are as before.
@@ -75,9 +76,9 @@ pub rising-filter : (test : ℕ → Bool) (low high : ℕ) (ns : List ℕ) → R
 rising-filter test low high [] h = tt
 rising-filter test low high (n ∷ ns) h = rising-if (test n) low high n (filter test ns) h.0 h.1 (rising-filter test (suc n) high ns h.2)
 
-pub rising-counting : (i n high : ℕ) → i + n ≤ high → Rising i high (counting i n)
-rising-counting i zero high l = tt
-rising-counting i (suc n) high l = (omega arith, omega arith, rising-counting (suc i) n high (omega arith))
+pub rising-range : (i n high : ℕ) → i + n ≤ high → Rising i high (range_with_len i n)
+rising-range i zero high l = tt
+rising-range i (suc n) high l = (omega arith, omega arith, rising-from (i + 1) (suc i) high (range_with_len (i + 1) n) (omega arith) (rising-range (i + 1) n high (omega arith)))
 
 -- none is below the first
 pub rising-absent : (low high m : ℕ) (ns : List ℕ) → m < low → Rising low high ns → is_member m ns ≡ false

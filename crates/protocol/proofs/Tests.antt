@@ -40,9 +40,6 @@ module _ {X : Type 0} (p : X → Bool) where
   find-suc (x ∷ xs) (suc i) d h none here =
       let first = past_first x _ none in not-here x _ first.0 ∙ find-suc xs i d (omega arith) first.1 here
 
-  pub find-more : (xs : List X) (i : ℕ) (d : X) → i < length xs → find p (take i xs) ≡ None → p (get_or xs i d) ≡ false → find p (take (i + 1) xs) ≡ None
-  find-more xs i d h none here = rw add-one (find-suc xs i d h none here)
-
   pub find-found : (xs : List X) (i : ℕ) (d : X) → i < length xs → find p (take i xs) ≡ None → p (get_or xs i d) ≡ true → find p xs ≡ Some (get_or xs i d)
   find-found [] i d h none here = absurd (omega arith)
   find-found (x ∷ xs) zero d h none here = found_here x _ here

@@ -1,5 +1,5 @@
 -- Lists of machines, and a function changed at one place.
-use Rattle.std.specs.Prelude.{ℕ, zero, suc, Bool, true, false, cond, not, List, [], ◌∷◌, ◌==◌, nat_eq}
+use Rattle.std.specs.Prelude.{ℕ, Bool, true, false, cond, not, List, [], ◌∷◌, ◌==◌, nat_eq}
 use Rattle.std.specs.List.{filter, list_any}
 
 abbrev pub is_empty : {A : Type 0} → List A → Bool
@@ -12,11 +12,6 @@ upd f i a j = cond (j == i) a (f j)
 
 abbrev pub is_member : ℕ → List ℕ → Bool
 is_member n ns = list_any (nat_eq n) ns
-
--- n numbers counting up from i
-abbrev pub counting : ℕ → ℕ → List ℕ
-counting i zero = []
-counting i (suc n) = i ∷ counting (suc i) n
 
 abbrev pub without : ℕ → List ℕ → List ℕ
 without n ns = filter (λ k. not (k == n)) ns

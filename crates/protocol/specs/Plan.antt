@@ -1,7 +1,7 @@
 -- Which plans are accepted, and where a plan puts an address.
 use Rattle.std.specs.Prelude.{ℕ, ◌*◌, ◌/◌, ◌^◌, Bool, not, ◌&&◌, List, take, ◌==◌, nat_le, nat_lt, slice_index_or}
 use Rattle.std.specs.List.{list_all}
-use Rattle.protocol.specs.Lists.{counting}
+use Rattle.std.specs.List.{range_with_len}
 use Rattle.protocol.specs.declared.plan.Plan.{Plan}
 use Rattle.protocol.specs.declared.plan.Home.{Home}
 
@@ -18,7 +18,7 @@ abbrev pub home_of : Plan → ℕ → Home
 home_of p a = slice_index_or p.homes (a / 64) (record { primary = 0; first = 0; second = 0 })
 
 abbrev pub machine_list : Plan → List ℕ
-machine_list p = counting 0 p.machines
+machine_list p = range_with_len 0 p.machines
 
 abbrev pub is_within : ℕ → ℕ → ℕ → Bool
 is_within low high n = nat_le low n && nat_le n high

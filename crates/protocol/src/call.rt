@@ -23,6 +23,8 @@ pub enum Outcome {
     Aborted = 2,
 }
 
+// What an accepted call answers: two numbers, whatever the call, as they are printed. A kind, a machine, a version or a yes
+// is its number here.
 #[derive(Clone, Copy, Debug, PartialEq, Eq)]
 pub struct Answer {
     pub first: u64,

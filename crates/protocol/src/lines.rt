@@ -5,7 +5,7 @@ use crate::record::Line;
 
 mod operations;
 
-// The first `len` places count.
+// The first `len` places count. Of lines alone: a struct with a ghost field derives no copy where a parameter is a type.
 #[derive(Clone, Copy)]
 pub struct LineVec<const N: usize> {
     len: usize,

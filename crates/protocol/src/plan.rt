@@ -10,7 +10,8 @@ pub struct Home {
 }
 
 // `capacity` is the number of places in a log; `start` the version of every word at set-up; `first` the number of each
-// coordinator's first transaction. The first `regions` homes count.
+// coordinator's first transaction. The first `regions` homes count: they are kept by value, since a plan
+// asks for no memory of its own, and their number is not bound by its type, since set-up refuses a wrong one with a number.
 #[derive(Clone, Copy, Debug, PartialEq, Eq)]
 pub struct Plan {
     pub machines: u8,

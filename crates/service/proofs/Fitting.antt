@@ -2,7 +2,6 @@
 use Rattle.std.proofs.Common.{◌≡◌, ℕ, ◌*◌, Bool, true, false, ◌&&◌, length, Ok, Err, sym, ap, ◌∙◌, arith}
 use Rattle.std.proofs.lemmas.Bool.{le-leb}
 use Rattle.protocol.specs.declared.plan.Plan.{Plan}
-use Rattle.protocol.specs.declared.call.Refusal.{Refusal}
 use Rattle.protocol.specs.declared.call.Refusal.TheVariants.{BadPlan, BadTables}
 use Rattle.protocol.specs.Try.{◌>>◌, unless}
 use Rattle.protocol.specs.Plan.{is_fine, size}
@@ -37,14 +36,6 @@ module _ (p : Plan) (was after : World) (long : Long p was) where
 
   told : set_up p (is_fitting p was) ≡ set_up p asks
   told = ap (set_up p) (made-fit p was long.coordinators long.records long.replies)
-
-  pub not-set_up : (n : Refusal) → SetsUp p was after (Err n) → (after.primaries ≡ was.primaries) × (after.firsts ≡ was.firsts) × (after.seconds ≡ was.seconds) × (set_up p asks ≡ Err n)
-  not-set_up n s = (
-    ap (λ (w : World). w.primaries) s.refused_unchanged,
-    ap (λ (w : World). w.firsts) s.refused_unchanged,
-    ap (λ (w : World). w.seconds) s.refused_unchanged,
-    sym told ∙ sym s.answers,
-  )
 
   accepted-size : (f g : Bool) (k : ℕ) → Ok k ≡ (unless BadPlan f >> (unless BadTables g >> Ok (size p))) → k ≡ size p
   unfolding unless ◌>>◌

@@ -1,6 +1,6 @@
 -- One call more.
-use Rattle.std.proofs.Common.{◌≡◌, ℕ, ◌+◌, ◌<◌, ◌≤◌, List, [], ◌∷◌, ◌++◌, length, get_or, take, Result, sym, refl, subst}
-use Rattle.std.proofs.lemmas.List.{take_more, take_all}
+use Rattle.std.proofs.Common.{◌≡◌, ℕ, ◌+◌, ◌<◌, List, [], ◌∷◌, ◌++◌, length, get_or, take, Result, sym, refl, subst}
+use Rattle.std.proofs.lemmas.List.{take_more}
 use Rattle.protocol.specs.declared.plan.Plan.{Plan}
 use Rattle.protocol.specs.declared.call.Call.{Call}
 use Rattle.protocol.specs.declared.call.Answer.{Answer}
@@ -23,6 +23,3 @@ runs-next p p' was mid after calls i d rs rs' r same l before does more =
     subst (λ (zs : List (Result Answer Refusal)). Runs p was (take (i + 1) calls) zs after) (sym more)
     (subst (λ (cs : List Call). Runs p was cs (rs ++ r ∷ []) after) (sym (take_more calls i d l))
     (runs-more p was mid after (take i calls) rs (get_or calls i d) r before (subst (λ (q : Plan). Does q mid after r (get_or calls i d)) same does)))
-
-pub runs-all : (p : Plan) (was after : World) (calls : List Call) (i : ℕ) (rs : List (Result Answer Refusal)) → length calls ≤ i → Runs p was (take i calls) rs after → Runs p was calls rs after
-runs-all p was after calls i rs l h = subst (λ (cs : List Call). Runs p was cs rs after) (take_all i calls l) h

@@ -1,4 +1,5 @@
-// The calls of a directory that owns what they are made on.
+// The calls of a directory that owns what they are made on. Each hands on its parts, as `&mut` only those that the call changes.
+// That the plan stays is a clause of each: no type can say it of a field that is handed on.
 ghost use Rattle.std.specs.Prelude.{◌≡◌};
 ghost use Rattle.protocol.specs.declared.call.Call.TheVariants.{Open, Read, Write, Abandon, Commit, Send, Poll, Take, Check, Trim};
 ghost use Rattle.directory.specs.Calls.{Does};

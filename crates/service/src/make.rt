@@ -34,10 +34,10 @@ impl From<MakeError> for Unmade {
 }
 
 impl From<AllocError> for Unmade {
-    ghost from_gives = { λ e r. r ≡ NoMemory e };
+    ghost from_gives = { λ error r. r ≡ NoMemory error };
 
-    fn from(e: AllocError) -> Unmade {
-        Unmade::NoMemory(e)
+    fn from(error: AllocError) -> Unmade {
+        Unmade::NoMemory(error)
     }
 }
 
@@ -78,6 +78,7 @@ impl<P: Memory, F: Memory, S: Memory> Directory<P, F, S> {
     ) -> Result<Directory<P, F, S>, Rejected<Unmade, (P, F, S)>>
         ensures { Makes P.Memory.words F.Memory.words S.Memory.words plan primaries firsts seconds result }
     {
+        // the memories move into the answer on every way, so no closure may take them
         let mut tables = match make_tables(heap, &plan) {
             Ok(tables) => tables,
             Err(error) => return Err(Rejected {

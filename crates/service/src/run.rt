@@ -1,4 +1,4 @@
-// A list of calls, made one after the other.
+// A list of calls, made one after the other. That the plan stays is a clause, as in calls.rt.
 ghost use Rattle.std.specs.Prelude.{◌≡◌, IfOk, OnErr};
 ghost use Rattle.service.specs.Owned.{owned};
 ghost use Rattle.service.specs.Running.{Runs};

@@ -1,14 +1,13 @@
 -- A step that was decoded is encoded as its entry, and a step that was encoded is decoded as it was.
-use Rattle.std.proofs.Common.{◌≡◌, ℕ, zero, suc, ◌+◌, ◌*◌, ◌<◌, ◌≤◌, Bool, true, false, cond, not, eqb, ltb, ◌⊎◌, List, [], ◌∷◌, ◌++◌, map, length, get_or, take, drop, Some, None, Ok, Err, Option, Result, sym, refl, ap, ◌∙◌, subst, inl, inr, arith}
+use Rattle.std.proofs.Common.{◌≡◌, ℕ, zero, suc, ◌+◌, ◌*◌, ◌<◌, ◌≤◌, Bool, true, false, cond, not, eqb, leb, ◌⊎◌, List, [], ◌∷◌, ◌++◌, map, length, get_or, take, drop, Some, None, Ok, Err, Option, Result, sym, refl, ap, ◌∙◌, subst, inl, inr, arith, length-drop}
 use Rattle.std.specs.List.{range_with_len, flat_map, slice_get}
 use Rattle.std.specs.Option.{option_map}
-use Rattle.std.specs.Int.{from_be_bytes, bytes_high_first}
+use Rattle.std.specs.Int.{w64, from_be_bytes, bytes_high_first}
 use Rattle.std.specs.Int.Digits.{AllBelowBase}
 use Rattle.std.proofs.lemmas.Nat.{be_bytes_2, be_bytes_8, from_be_bytes-to_be_bytes_2, from_be_bytes-to_be_bytes_8}
-use mir.Syntax.{w64}
 use Rattle.std.proofs.lemmas.List.FromFn.{fill_by_all, take-map-range_with_len}
 use Rattle.std.proofs.lemmas.List.{get_or-take, get_or-append-add, length-take-le, take-append-drop, drop_more, drop_all}
-use Rattle.std.proofs.lemmas.Bool.{cases_lt, eqb-true, eq-eqb, ne_eqb, lt-ltb, le-ltb, cond-true, cond-false}
+use Rattle.std.proofs.lemmas.Bool.{cases_lt, eqb-true, eq-eqb, ne_eqb, le-leb, lt-leb, cond-true, cond-false}
 use Rattle.protocol.specs.declared.call.Call.{Call}
 use Rattle.protocol.specs.declared.call.Call.TheVariants.{Open, Read, Write, Abandon, Commit, Send, Poll, Take, Check, Trim}
 use Rattle.protocol.specs.declared.plan.Home.{Home}
@@ -64,6 +63,23 @@ call-row e n k c rest p q s h kind keeps =
     let z = sized-some e n c ACall s h in
     ap encoded z.1 ∙ p ∙ ap (λ x. x ∷ rest) (sym kind) ∙ sym q ∙ sym (spelled n e z.0)
 
+-- the bytes of the regions from r on
+region-bytes : (bs : List ℕ) (n r : ℕ) → length bs ≡ 3 * (r + n) → flat_map home_bytes (map (home bs) (range_with_len r n)) ≡ drop (3 * r) bs
+region-bytes bs zero r h = sym (drop_all (3 * r) bs (omega (arith, h)))
+region-bytes bs (suc n) r h =
+    let i = 3 * r in
+    let here : home bs r ≡ record { primary = get_or bs i 0; first = get_or bs (i + 1) 0; second = get_or bs (i + 2) 0 } =
+    cond-true (leb (i + 3) (length bs)) _ _ (le-leb (i + 3) (length bs) (omega (arith, h))) in
+    let third : i + 1 + 1 ≡ i + 2 = omega arith in
+    let fourth : i + 1 + 1 + 1 ≡ 3 * (r + 1) = omega arith in
+    let rest = flat_map home_bytes (map (home bs) (range_with_len (r + 1) n)) in
+    ap (λ (x : Home). home_bytes x ++ rest) here
+    ∙ ap (λ (xs : List ℕ). get_or bs i 0 ∷ get_or bs (i + 1) 0 ∷ get_or bs (i + 2) 0 ∷ xs) (region-bytes bs n (r + 1) (omega (arith, h)) ∙ ap (λ j. drop j bs) (sym fourth))
+    ∙ ap (λ (j : ℕ). get_or bs i 0 ∷ get_or bs (i + 1) 0 ∷ get_or bs j 0 ∷ drop (i + 1 + 1 + 1) bs) (sym third)
+    ∙ ap (λ (xs : List ℕ). get_or bs i 0 ∷ get_or bs (i + 1) 0 ∷ xs) (sym (drop_more bs (i + 1 + 1) 0 (omega (arith, h))))
+    ∙ ap (λ (xs : List ℕ). get_or bs i 0 ∷ xs) (sym (drop_more bs (i + 1) 0 (omega (arith, h))))
+    ∙ sym (drop_more bs i 0 (omega (arith, h)))
+
 module _ (e : List ℕ) (byte : (i : ℕ) → get_or e i 0 < 256) where
   two : (i : ℕ) → bytes_high_first 2 (two_at e i) ≡ get_or e i 0 ∷ get_or e (i + 1) 0 ∷ []
   two i =
@@ -87,31 +103,12 @@ module _ (e : List ℕ) (byte : (i : ℕ) → get_or e i 0 < 256) where
       let all : AllBelowBase 256 (eight_bytes i) = (byte i, (byte (i + 1), (byte (i + 2), (byte (i + 3), (byte (i + 4), (byte (i + 5), (byte (i + 6), (byte (i + 7), tt)))))))) in
       be_bytes_8 (eight_bytes i) (eight_at e i) refl (byte-at (eight_bytes i) all) refl
 
-  -- the bytes of the regions from r on
-  region-bytes : (n r : ℕ) → r + n ≡ regions e → length e ≡ 21 + 3 * regions e → flat_map home_bytes (map (home e) (range_with_len r n)) ≡ drop (21 + 3 * r) e
-  region-bytes zero r h l = sym (drop_all (21 + 3 * r) e (omega arith))
-  region-bytes (suc n) r h l =
-      let here : home e r ≡ record { primary = get_or e (21 + 3 * r) 0; first = get_or e (22 + 3 * r) 0; second = get_or e (23 + 3 * r) 0 } =
-      cond-true (ltb r (regions e)) _ _ (lt-ltb r (regions e) (omega arith)) in
-      let i = 21 + 3 * r in
-      let second : i + 1 ≡ 22 + 3 * r = omega arith in
-      let third : i + 1 + 1 ≡ 23 + 3 * r = omega arith in
-      let fourth : i + 1 + 1 + 1 ≡ 21 + 3 * (r + 1) = omega arith in
-      let rest = flat_map home_bytes (map (home e) (range_with_len (r + 1) n)) in
-      ap (λ (x : Home). home_bytes x ++ rest) here
-      ∙ ap (λ (xs : List ℕ). get_or e i 0 ∷ get_or e (22 + 3 * r) 0 ∷ get_or e (23 + 3 * r) 0 ∷ xs) (region-bytes n (r + 1) (omega arith) l ∙ ap (λ j. drop j e) (sym fourth))
-      ∙ ap (λ (j : ℕ). get_or e i 0 ∷ get_or e (22 + 3 * r) 0 ∷ get_or e j 0 ∷ drop (i + 1 + 1 + 1) e) (sym third)
-      ∙ ap (λ (j : ℕ). get_or e i 0 ∷ get_or e j 0 ∷ get_or e (i + 1 + 1) 0 ∷ drop (i + 1 + 1 + 1) e) (sym second)
-      ∙ ap (λ (xs : List ℕ). get_or e i 0 ∷ get_or e (i + 1) 0 ∷ xs) (sym (drop_more e (i + 1 + 1) 0 (omega arith)))
-      ∙ ap (λ (xs : List ℕ). get_or e i 0 ∷ xs) (sym (drop_more e (i + 1) 0 (omega arith)))
-      ∙ sym (drop_more e i 0 (omega arith))
-
   plan-encoded : length e ≡ 21 + 3 * regions e → regions e ≤ 8 → get_or e 0 0 ≡ 0 → encoded_plan (plan e) ≡ e
   unfolding plan
   plan-encoded l small kind =
       let behind = drop 21 e in
-      let regions-there : flat_map home_bytes (take (regions e) (homes e)) ≡ behind =
-      ap (flat_map home_bytes) (take-map-range_with_len (home e) 0 8 (regions e) small) ∙ region-bytes (regions e) 0 (omega arith) l in
+      let regions-there : flat_map home_bytes (take (regions e) (homes behind)) ≡ behind =
+      ap (flat_map home_bytes) (take-map-range_with_len (home behind) 0 8 (regions e) small) ∙ region-bytes behind (regions e) 0 (omega (arith, l, length-drop 21 e)) in
       ap (λ (xs : List ℕ). 0 ∷ get_or e 1 0 ∷ get_or e 2 0 ∷ get_or e 3 0 ∷ get_or e 4 0 ∷ bytes_high_first 8 (eight_at e 5) ++ (bytes_high_first 8 (eight_at e 13) ++ xs)) regions-there
       ∙ ap (λ (xs : List ℕ). 0 ∷ get_or e 1 0 ∷ get_or e 2 0 ∷ get_or e 3 0 ∷ get_or e 4 0 ∷ xs ++ (bytes_high_first 8 (eight_at e 13) ++ behind)) (eight 5)
       ∙ ap (λ (xs : List ℕ). 0 ∷ get_or e 1 0 ∷ get_or e 2 0 ∷ get_or e 3 0 ∷ get_or e 4 0 ∷ eight_bytes 5 ++ (xs ++ behind)) (eight 13)
@@ -208,41 +205,37 @@ same_home : (a b c : ℕ) (h : Home) → a ≡ h.primary → b ≡ h.first → c
 same_home a b c h p q r = λ i. record { primary = p i; first = q i; second = r i }
 
 module _ (p : Plan) (fits : Encodable (SetUp p)) where
-  abbrev head : List ℕ
-  head = 0 ∷ p.machines ∷ p.coordinators ∷ p.regions ∷ p.capacity ∷ bytes_high_first 8 p.start ++ bytes_high_first 8 p.first
-
   abbrev tail : List ℕ
   tail = flat_map home_bytes (take p.regions p.homes)
 
   length-kept : length (take p.regions p.homes) ≡ p.regions
   length-kept = length-take-le p.regions p.homes (omega (arith, fits.2, p.eight))
 
-  length-plan : length (encoded_plan p) ≡ 21 + 3 * p.regions
-  length-plan = omega (arith, length-home_bytes (take p.regions p.homes), length-kept)
+  length-tail : length tail ≡ 3 * p.regions
+  length-tail = omega (arith, length-home_bytes (take p.regions p.homes), length-kept)
 
-  home-back : (r : ℕ) → r < 8 → home (encoded_plan p) r ≡ get_or p.homes r blank
+  length-plan : length (encoded_plan p) ≡ 21 + 3 * p.regions
+  length-plan = omega (arith, length-tail)
+
+  home-back : (r : ℕ) → r < 8 → home tail r ≡ get_or p.homes r blank
   home-back r l = by (cases_lt r p.regions)
     where
-      by : (r < p.regions) ⊎ (p.regions ≤ r) → home (encoded_plan p) r ≡ get_or p.homes r blank
+      by : (r < p.regions) ⊎ (p.regions ≤ r) → home tail r ≡ get_or p.homes r blank
       by (inl under) =
           let there = home-there (take p.regions p.homes) r (omega (arith, length-kept)) in
-          let kept : get_or (take p.regions p.homes) r blank ≡ get_or p.homes r blank = get_or-take p.regions p.homes r blank under in
-          let at_first : 22 + 3 * r ≡ 21 + (3 * r + 1) = omega arith in
-          let at_second : 23 + 3 * r ≡ 21 + (3 * r + 2) = omega arith in
-          cond-true (ltb r p.regions) _ _ (lt-ltb r p.regions under)
-          ∙ same_home _ _ _ (get_or (take p.regions p.homes) r blank)
-          (get_or-append-add head tail (3 * r) 0 ∙ there.primary)
-          (ap (λ i. get_or (head ++ tail) i 0) at_first ∙ get_or-append-add head tail (3 * r + 1) 0 ∙ there.first)
-          (ap (λ i. get_or (head ++ tail) i 0) at_second ∙ get_or-append-add head tail (3 * r + 2) 0 ∙ there.second)
-          ∙ kept
-      by (inr past) = cond-false (ltb r p.regions) _ _ (le-ltb r p.regions past) ∙ sym (fits.3 r past l)
+          cond-true (leb (3 * r + 3) (length tail)) _ _ (le-leb (3 * r + 3) (length tail) (omega (arith, under, length-tail)))
+          ∙ same_home _ _ _ (get_or (take p.regions p.homes) r blank) there.primary there.first there.second
+          ∙ get_or-take p.regions p.homes r blank under
+      by (inr past) =
+          cond-false (leb (3 * r + 3) (length tail)) _ _ (lt-leb (3 * r + 3) (length tail) (omega (arith, past, length-tail)))
+          ∙ sym (fits.3 r past l)
 
   plan-back : plan (encoded_plan p) ≡ p
   unfolding plan
   plan-back =
-      same-plan p.machines p.coordinators p.regions p.capacity _ p.start _ p.first (homes (encoded_plan p)) p.homes refl p.eight
+      same-plan p.machines p.coordinators p.regions p.capacity _ p.start _ p.first (homes tail) p.homes refl p.eight
       (from_be_bytes-to_be_bytes_8 p.start fits.0) (from_be_bytes-to_be_bytes_8 p.first fits.1)
-      (sym (fill_by_all (home (encoded_plan p)) p.homes 8 blank p.eight (λ k l. sym (home-back k l))))
+      (sym (fill_by_all (home tail) p.homes 8 blank p.eight (λ k l. sym (home-back k l))))
 
   set_up-back : (place : ℕ) → eqb place 1 ≡ true → decoded place (encoded_plan p) ≡ Ok (SetUp p)
   set_up-back place o =

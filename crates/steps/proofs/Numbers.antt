@@ -1,12 +1,11 @@
 -- Bytes of a list, read as a number and written again.
 use Rattle.std.proofs.Common.{◌≡◌, ℕ, zero, suc, ◌+◌, ◌≤◌, ◌<◌, List, [], ◌∷◌, map, length, get_or, take, drop, ap, ◌∙◌, arith, length-drop}
-use Rattle.std.specs.Int.{from_be_bytes}
+use Rattle.std.specs.Int.{w64, from_be_bytes}
 use Rattle.std.specs.Int.Digits.{AllBelowBase}
 use Rattle.std.specs.List.{range_with_len}
 use Rattle.std.proofs.lemmas.List.{get_or-take, get_or-drop, length-take-le}
 use Rattle.std.proofs.lemmas.List.FromFn.{fill_by_all}
 use Rattle.steps.specs.Bytes.{eight_at}
-use mir.Syntax.{w64}
 
 -- a byte, or the 0 that is read behind the last
 pub byte-at : (bs : List ℕ) → AllBelowBase 256 bs → (i : ℕ) → get_or bs i 0 < 256

@@ -1,13 +1,12 @@
 -- Entries that were written as a file are read back.
 use Rattle.std.proofs.Common.{◌≡◌, ℕ, ◌+◌, ◌/◌, ◌%◌, ◌<◌, true, List, [], ◌∷◌, ◌++◌, length, get_or, take, drop, Ok, sym, refl, ap, ◌∙◌, subst, arith, length-append}
 use lib.Seq.{drop-append-add}
-use Rattle.std.specs.Int.{from_be_bytes}
+use Rattle.std.specs.Int.{w16, from_be_bytes}
 use Rattle.std.specs.List.{flat_map, AllByRecursion}
 use Rattle.std.proofs.lemmas.Nat.{from_be_bytes-to_be_bytes_2}
 use Rattle.std.proofs.lemmas.List.{append-nil, append_assoc, get_or_at, get_or-append-add, take_at}
 use Rattle.std.proofs.lemmas.Bool.{le-leb}
 use Rattle.steps.specs.Bytes.{two_at}
-use mir.Syntax.{w16}
 use Rattle.steps.specs.Frames.{Position, at, opened, entry_at, passed, is_whole, end_of, entry}
 use Rattle.steps.specs.Writing.{with_length, written}
 use Rattle.steps.specs.Laws.{listed, handed, reached, ReadsBack}

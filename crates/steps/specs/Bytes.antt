@@ -1,7 +1,6 @@
 -- Numbers of two and of eight bytes, the highest byte first.
 use Rattle.std.specs.Prelude.{ℕ, ◌+◌, List, [], ◌∷◌, slice_index}
-use Rattle.std.specs.Int.{from_be_bytes}
-use mir.Syntax.{w16, w64}
+use Rattle.std.specs.Int.{w16, w64, from_be_bytes}
 
 -- the number in the two bytes from the byte `i` on
 abbrev pub two_at : List ℕ → ℕ → ℕ

@@ -1,5 +1,5 @@
 -- What an entry's bytes stand for: its kind byte, then its fields.
-use Rattle.std.specs.Prelude.{ℕ, ◌+◌, ◌*◌, Bool, cond, not, List, [], ◌∷◌, map, length, Some, None, Ok, Err, Option, Result, ◌==◌, nat_lt, slice_index, refl}
+use Rattle.std.specs.Prelude.{ℕ, ◌+◌, ◌*◌, Bool, cond, not, List, [], ◌∷◌, map, length, drop, Some, None, Ok, Err, Option, Result, ◌==◌, nat_le, slice_index, refl}
 use Rattle.std.specs.List.{range_with_len, slice_get}
 use Rattle.std.specs.Option.{option_map}
 use Rattle.protocol.specs.declared.call.Call.{Call}
@@ -36,21 +36,22 @@ regions e = slice_index e 3
 abbrev pub blank : Home
 blank = record { primary = 0; first = 0; second = 0 }
 
--- three bytes for each region, behind the 21 bytes of the kind and the other fields
+-- three bytes for each region; a region whose bytes are not there has a blank home
 abbrev pub home : List ℕ → ℕ → Home
-home e r =
-    cond (nat_lt r (regions e))
-    (record { primary = slice_index e (21 + 3 * r); first = slice_index e (22 + 3 * r); second = slice_index e (23 + 3 * r) })
+home bytes r =
+    cond (nat_le (3 * r + 3) (length bytes))
+    (record { primary = slice_index bytes (3 * r); first = slice_index bytes (3 * r + 1); second = slice_index bytes (3 * r + 2) })
     blank
 
 -- a plan has eight homes; those of further regions are left out
 abbrev pub homes : List ℕ → List Home
-homes e = map (home e) (range_with_len 0 8)
+homes bytes = map (home bytes) (range_with_len 0 8)
 
--- a set-up's machines, coordinators, regions and capacity in a byte each, start version and first number in eight each
+-- a set-up's machines, coordinators, regions and capacity in a byte each, start version and first number in eight each,
+-- and then the homes
 unfoldable pub plan : List ℕ → Plan
 plan e =
-    record { machines = slice_index e 1; coordinators = slice_index e 2; regions = regions e; capacity = slice_index e 4; start = eight_at e 5; first = eight_at e 13; homes = homes e; eight = refl }
+    record { machines = slice_index e 1; coordinators = slice_index e 2; regions = regions e; capacity = slice_index e 4; start = eight_at e 5; first = eight_at e 13; homes = homes (drop 21 e); eight = refl }
 
 -- what an entry holds, if it has this many bytes
 abbrev pub sized : {X : Type 0} → List ℕ → ℕ → X → Option X

@@ -17,4 +17,4 @@ written es = 1 ∷ flat_map with_length es
 abbrev pub Wrote : List ℕ → List ℕ → List ℕ → Result (Unit {0}) WriteFault → Type 0
 Wrote was after e (Ok x) = (length e < 65536) × (after ≡ was ++ with_length e)
 Wrote was after e (Err EntryTooLong) = (65536 ≤ length e) × (after ≡ was)
-Wrote was after e (Err NoMemory) = (length e < 65536) × (after ≡ was)
+Wrote was after e (Err (NoMemory a)) = (length e < 65536) × (after ≡ was)

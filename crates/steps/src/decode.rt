@@ -52,34 +52,34 @@ fn read(e: &[u8]) -> Option<Call>
 fn write(e: &[u8]) -> Option<Call>
     ensures { result ≡ sized e.now 12 (Write (coordinator e.now) (address e.now) (value e.now)) }
 {
-    let [_, coordinator, high, low, v0, v1, v2, v3, v4, v5, v6, v7] = e else {
+    let [_, coordinator, high, low, value @ ..] = e else {
         return None;
     };
     let address = u16::from_be_bytes([*high, *low]);
-    let value = u64::from_be_bytes([*v0, *v1, *v2, *v3, *v4, *v5, *v6, *v7]);
+    let value = u64::from_be_bytes(value.try_into().ok()?);
     Some(Call::Write(*coordinator, address, value))
 }
 
-fn home_of(e: &[u8], region: usize) -> Home
-    requires { 21 + 3 * regions e.now ≤ length e.now }
-    ensures { result ≡ home e.now region }
+// A region that the bytes do not reach has a blank home.
+#[tactic(auto, using(crate::proofs::Homes::in_chunk))]
+fn home_of(bytes: &[u8], region: usize) -> Home
+    ensures { result ≡ home bytes.now region }
 {
-    if region >= e[3] as usize {
+    let (homes, _) = bytes.as_chunks::<3>();
+    let Some([primary, first, second]) = homes.get(region) else {
         return Home::default();
-    }
-    let i = 21 + 3 * region;
+    };
     Home {
-        primary: e[i],
-        first: e[i + 1],
-        second: e[i + 2],
+        primary: *primary,
+        first: *first,
+        second: *second,
     }
 }
 
-fn homes_of(e: &[u8]) -> [Home; 8]
-    requires { 21 + 3 * regions e.now ≤ length e.now }
-    ensures { result ≡ homes e.now }
+fn homes_of(bytes: &[u8]) -> [Home; 8]
+    ensures { result ≡ homes bytes.now }
 {
-    std::array::from_fn(|region| home_of(e, region))
+    std::array::from_fn(|region| home_of(bytes, region))
 }
 
 // An entry that is too short to say how many regions it has is of another length, too.
@@ -101,7 +101,7 @@ fn plan_of(e: &[u8]) -> Option<Plan>
         capacity: *capacity,
         start: u64::from_be_bytes(*start),
         first: u64::from_be_bytes(*first),
-        homes: homes_of(e),
+        homes: homes_of(homes),
     })
 }
 

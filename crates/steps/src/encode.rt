@@ -19,7 +19,7 @@ fn encode_write(
     ensures { IfOk result (λ v. v.items ≡ encoded_call (Write coordinator address value)) }
 {
     let [high, low] = address.to_be_bytes();
-    let mut out = [EntryKind::Write as u8, coordinator, high, low].to_vec(heap)?;
+    let mut out = [EntryKind::Write.into(), coordinator, high, low].to_vec(heap)?;
     out.extend_from_slice(&value.to_be_bytes())?;
     Ok(out)
 }
@@ -28,22 +28,23 @@ fn encode_call(heap: Global, call: Call) -> Result<Vec<u8>, AllocError>
     ensures { IfOk result (λ v. v.items ≡ encoded_call call) }
 {
     match call {
-        Call::Open(c) => [EntryKind::Open as u8, c].to_vec(heap),
+        Call::Open(c) => [EntryKind::Open.into(), c].to_vec(heap),
         Call::Read(c, address) => {
             let [high, low] = address.to_be_bytes();
-            [EntryKind::Read as u8, c, high, low].to_vec(heap)
+            [EntryKind::Read.into(), c, high, low].to_vec(heap)
         }
         Call::Write(c, address, value) => encode_write(heap, c, address, value),
-        Call::Abandon(c) => [EntryKind::Abandon as u8, c].to_vec(heap),
-        Call::Commit(c) => [EntryKind::Commit as u8, c].to_vec(heap),
-        Call::Send(c) => [EntryKind::Send as u8, c].to_vec(heap),
-        Call::Poll(c, machine) => [EntryKind::Poll as u8, c, machine].to_vec(heap),
-        Call::Take(c, machine) => [EntryKind::Take as u8, c, machine].to_vec(heap),
-        Call::Check(c) => [EntryKind::Check as u8, c].to_vec(heap),
-        Call::Trim(c, machine) => [EntryKind::Trim as u8, c, machine].to_vec(heap),
+        Call::Abandon(c) => [EntryKind::Abandon.into(), c].to_vec(heap),
+        Call::Commit(c) => [EntryKind::Commit.into(), c].to_vec(heap),
+        Call::Send(c) => [EntryKind::Send.into(), c].to_vec(heap),
+        Call::Poll(c, machine) => [EntryKind::Poll.into(), c, machine].to_vec(heap),
+        Call::Take(c, machine) => [EntryKind::Take.into(), c, machine].to_vec(heap),
+        Call::Check(c) => [EntryKind::Check.into(), c].to_vec(heap),
+        Call::Trim(c, machine) => [EntryKind::Trim.into(), c, machine].to_vec(heap),
     }
 }
 
+// A loop, since a chain of `flat_map` was tried and its goal `returns` stayed open.
 fn add_homes(out: &mut Vec<u8>, homes: &[Home]) -> Result<(), AllocError>
     ensures { OnOk result (out.new.items ≡ out.old.items ++ flat_map home_bytes homes.now) }
 {
@@ -57,7 +58,7 @@ fn encode_plan(heap: Global, plan: &Plan) -> Result<Vec<u8>, AllocError>
     ensures { IfOk result (λ v. v.items ≡ encoded_plan plan.now) }
 {
     let mut out = [
-        EntryKind::SetUp as u8,
+        EntryKind::SetUp.into(),
         plan.machines,
         plan.coordinators,
         plan.regions,

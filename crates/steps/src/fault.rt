@@ -48,7 +48,7 @@ impl From<EntryFault> for RunFault {
     }
 }
 
-// The three numbers that are printed.
+// Numbers, since these three are what is printed; the enum stands beside them.
 impl RunFault {
     pub fn cause(self) -> u8
         ensures { result ≡ (run_numbers self).cause }

@@ -1,5 +1,6 @@
 // The kinds of entries.
-ghost use Rattle.steps.specs.Kinds.{IsKindOf};
+ghost use Rattle.std.specs.Prelude.{◌≡◌};
+ghost use Rattle.steps.specs.Kinds.{IsKindOf, kind_number};
 
 // An entry's first byte is the number of its kind.
 #[derive(Clone, Copy, Debug, PartialEq, Eq)]
@@ -15,6 +16,14 @@ pub enum EntryKind {
     Take = 8,
     Check = 9,
     Trim = 10,
+}
+
+impl From<EntryKind> for u8 {
+    ghost from_gives = { λ kind r. r ≡ kind_number kind };
+
+    fn from(kind: EntryKind) -> u8 {
+        kind as u8
+    }
 }
 
 // A number that no kind has.

@@ -8,14 +8,14 @@ use std::alloc::AllocError;
 #[derive(Clone, Copy, Debug, PartialEq, Eq)]
 pub enum WriteFault {
     EntryTooLong,
-    NoMemory,
+    NoMemory(AllocError),
 }
 
 impl From<AllocError> for WriteFault {
-    ghost from_gives = { λ _ r. r ≡ NoMemory };
+    ghost from_gives = { λ e r. r ≡ NoMemory e };
 
-    fn from(_fault: AllocError) -> WriteFault {
-        WriteFault::NoMemory
+    fn from(e: AllocError) -> WriteFault {
+        WriteFault::NoMemory(e)
     }
 }
 

@@ -3,7 +3,8 @@ ghost use Rattle.memory.specs.Places.{place_of};
 
 use crate::make::MOST;
 
-// Where an address of two joined memories lies: in the first, in the second at an address of its own, or past both.
+// Where an address of two joined memories lies: in the first, in the second at an address of its own, or past both. As an
+// option of two parts it would be matched for the same three.
 #[derive(Clone, Copy)]
 pub enum Place {
     First(usize),

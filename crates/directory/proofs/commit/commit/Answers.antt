@@ -21,7 +21,6 @@ has_room-requires g c =
     let few = commit-sizes c.args.plan.now w c.args.c in' c.index-coordinators-c.result in
     record {
       machines = few.machines.1;
-      capacity = few.capacity.1;
       c = commit-under c.args.plan.now w c.args.c in' c.index-coordinators-c.result;
       records = commit-records c.args.plan.now w c.args.c in' c.index-coordinators-c.result;
     }

@@ -12,12 +12,10 @@ returns-in_err-admit g c = handed-on _ (world _ _ _ _ _ _) _ _ _ c.from_residual
 pub returns-in_default : goal.returns-in_default
 returns-in_default g c = poll-beyond _ (world _ _ _ _ _ _) _ _ (inside _ (world _ _ _ _ _ _) _ c.in_ok-admit.ensures.answers) (search rules)
 
-pub slice_bounds-slots-end : goal.slice_bounds-slots-end
-slice_bounds-slots-end g c =
+pub slots_of-slots-requires : goal.slots_of-slots-requires
+slots_of-slots-requires g c =
     let w : World = (world c.args.coordinators.now c.args.records.now c.args.replies.now (g.P.Memory.words c.args.primaries.now) (g.F.Memory.words c.args.firsts.now) (g.S.Memory.words c.args.seconds.now)) in
-    let in' = inside c.args.plan.now w c.args.c c.in_ok-admit.ensures.answers in
-    let end = pairs.log-end c.args.plan.now w c.args.c c.args.m in' c.in-true.is in
-    search rules
+    pairs.log-end c.args.plan.now w c.args.c c.args.m (inside c.args.plan.now w c.args.c c.in_ok-admit.ensures.answers) c.in-true.is
 
 pub bounds-own-j : goal.bounds-own-j
 bounds-own-j g c =
@@ -29,7 +27,7 @@ returns-in_default-next g c =
     let w : World = (world c.args.coordinators.now c.args.records.now c.args.replies.now (g.P.Memory.words c.args.primaries.now) (g.F.Memory.words c.args.firsts.now) (g.S.Memory.words c.args.seconds.now)) in
     let in' = inside c.args.plan.now w c.args.c c.in_ok-admit.ensures.answers in
     nothing-polled c.args.plan.now w c.args.c c.args.m in' c.in-true.is c.index-coordinators-c.result
-    _ (pairs.slots-are c.args.plan.now w c.args.c c.args.m in' c.in-true.is _ (omega arith)) c.in_default-next.ensures
+    _ c.slots_of-slots.ensures c.in_default-next.ensures
 
 pub bounds-own-j-2 : goal.bounds-own-j-2
 bounds-own-j-2 g c =
@@ -45,17 +43,16 @@ pub slice_bounds-answer_lock-end : goal.slice_bounds-answer_lock-end
 slice_bounds-answer_lock-end g c =
     let w : World = (world c.args.coordinators.now c.args.records.now c.args.replies.now (g.P.Memory.words c.args.primaries.now) (g.F.Memory.words c.args.firsts.now) (g.S.Memory.words c.args.seconds.now)) in
     let in' = inside c.args.plan.now w c.args.c c.in_ok-admit.ensures.answers in
-    let end = pairs.queue-end c.args.plan.now w c.args.c c.args.m in' c.in-true.is in
-    search rules
+    pairs.places-within c.args.plan.now w c.args.c c.args.m in' c.in-true.is _ c.block_of-block.ensures
 
 pub returns : goal.returns
 returns g c =
     let w : World = (world c.args.coordinators.now c.args.records.now c.args.replies.now (g.P.Memory.words c.args.primaries.now) (g.F.Memory.words c.args.firsts.now) (g.S.Memory.words c.args.seconds.now)) in
     let in' = inside c.args.plan.now w c.args.c c.in_ok-admit.ensures.answers in
     polls c.args.plan.now w c.args.c c.args.m in' c.in-true.is (g.met.P.Memory.proper c.args.primaries.now) c.index-coordinators-c-2.result c.index-coordinators-c.result
-    _ (pairs.slots-are c.args.plan.now w c.args.c c.args.m in' c.in-true.is _ (omega arith))
-    _ (pairs.places-are c.args.plan.now w c.args.c c.args.m in' c.in-true.is _ (omega arith)) _ (omega arith)
+    _ c.slots_of-slots.ensures
+    _ (pairs.places-are c.args.plan.now w c.args.c c.args.m in' c.in-true.is _ c.block_of-block.ensures _ (omega arith)) _ c.block_of-block.ensures _ (omega arith)
     c.in-Some.found c.in-Some.ensures c.handle-done.result.count c.handle-done.result.reply _ _ _ c.handle-done.ensures
     c.pass_log.new.log c.answer_lock.new.queue c.answer_lock.new.slots c.answer_lock.auto.slots
     c.pass_log.ensures.stands c.pass_log.ensures.after c.answer_lock.ensures.stands c.answer_lock.ensures.after
-    _ c.into.ensures
+    _ c.polled.ensures

@@ -2,8 +2,7 @@
 use Rattle.std.proofs.Common.{sym}
 use Rattle.directory.specs.View.{world}
 use Rattle.directory.proofs.Doing.{inside, handed-on}
-use Rattle.directory.proofs.Pairs.{below-five}
-use Rattle.directory.proofs.Logging.{within-table, room-again}
+use Rattle.directory.proofs.Pairs.{below-five, slots-within}
 use Rattle.directory.proofs.Sending.{send-closed, send-nothing, send-full, sends}
 use Rattle.directory.proofs.send.send.Goals as goal
 
@@ -29,14 +28,9 @@ returns-in_default-has_room g c =
 pub bounds-own-m-2 : goal.bounds-own-m-2
 bounds-own-m-2 g c = below-five _ (world _ _ _ _ _ _) _ _ (inside _ (world _ _ _ _ _ _) _ c.in_ok-admit.ensures.answers) c.in-Some-machine_due.ensures.within
 
-pub append_in-requires : goal.append_in-requires
-append_in-requires g c = record {
-  within =
-      within-table _ (world _ _ _ _ _ _) _ _ (inside _ (world _ _ _ _ _ _) _ c.in_ok-admit.ensures.answers) c.in-Some-machine_due.ensures.within _ c.block_of-block.ensures;
-  room =
-      room-again _ (world _ _ _ _ _ _) _ _ (inside _ (world _ _ _ _ _ _) _ c.in_ok-admit.ensures.answers) c.in-Some-machine_due.ensures.within c.index-coordinators-c.result c.index-coordinators-c-2.result
-      (sym c.in-true.ensures);
-}
+pub append_in-requires-clause-within : goal.append_in-requires-clause-within
+append_in-requires-clause-within g c =
+    slots-within _ (world _ _ _ _ _ _) _ _ (inside _ (world _ _ _ _ _ _) _ c.in_ok-admit.ensures.answers) c.in-Some-machine_due.ensures.within _ c.block_of-block.ensures
 
 pub go_on-outcome-requires : goal.go_on-outcome-requires
 go_on-outcome-requires g c = below-five _ (world _ _ _ _ _ _) _ _ (inside _ (world _ _ _ _ _ _) _ c.in_ok-admit.ensures.answers) c.in-Some-machine_due.ensures.within

@@ -1,6 +1,6 @@
 -- Each way out of take.
 use Rattle.std.proofs.Common.{refl, arith, rules}
-use Rattle.directory.specs.View.{World, world}
+use Rattle.directory.specs.View.{world}
 use Rattle.directory.proofs.Plans.{sizes-of}
 use Rattle.directory.proofs.Doing.{inside, handed-on}
 use Rattle.directory.proofs.Pairs.{queue-end}
@@ -15,31 +15,23 @@ returns-in_default g c = take_beyond _ (world _ _ _ _ _ _) _ _ (inside _ (world 
 
 pub returns-in_default-phase : goal.returns-in_default-phase
 returns-in_default-phase g c =
-    take-closed _ (world _ _ _ _ _ _) _ _ (inside _ (world _ _ _ _ _ _) _ c.in_ok-admit.ensures.answers) c.in-true.is c.index-coordinators-c.result c.in_default-phase.not-Locking
+    take-closed _ (world _ _ _ _ _ _) _ _ (inside _ (world _ _ _ _ _ _) _ c.in_ok-admit.ensures.answers) c.in-true.is _ refl c.index-coordinators-c.result c.in_default-phase.not-Locking
 
-pub slice_bounds-slots-end : goal.slice_bounds-slots-end
-slice_bounds-slots-end g c =
-    let w : World = world c.args.coordinators.now c.args.records.now c.args.replies.now (g.P.Memory.words c.args.primaries.now) (g.F.Memory.words c.args.firsts.now) (g.S.Memory.words c.args.seconds.now) in
-    let end = queue-end c.args.plan.now w c.args.c c.args.m (inside c.args.plan.now w c.args.c c.in_ok-admit.ensures.answers) c.in-true.is in search rules
+pub slots_of-slots-requires : goal.slots_of-slots-requires
+slots_of-slots-requires g c = queue-end _ (world _ _ _ _ _ _) _ _ (inside _ (world _ _ _ _ _ _) _ c.in_ok-admit.ensures.answers) c.in-true.is
 
 pub bounds-own-m : goal.bounds-own-m
 bounds-own-m g c = omega (arith, c.in-true.is, (sizes-of _ (inside _ (world _ _ _ _ _ _) _ c.in_ok-admit.ensures.answers).fine).machines.1)
 
 pub returns-in_default-peek : goal.returns-in_default-peek
 returns-in_default-peek g c =
-    take-nothing _ (world _ _ _ _ _ _) _ _ (inside _ (world _ _ _ _ _ _) _ c.in_ok-admit.ensures.answers) c.in-true.is c.index-coordinators-c.result c.in-Locking.locking c.in-Locking.is c.in_default-peek.ensures.answers
-
-pub bounds-own-m-2 : goal.bounds-own-m-2
-bounds-own-m-2 g c = omega (arith, c.in-true.is, (sizes-of _ (inside _ (world _ _ _ _ _ _) _ c.in_ok-admit.ensures.answers).fine).machines.1)
-
-pub replied-requires : goal.replied-requires
-replied-requires g c = omega (arith, c.in-true.is, (sizes-of _ (inside _ (world _ _ _ _ _ _) _ c.in_ok-admit.ensures.answers).fine).machines.1)
+    take-nothing _ (world _ _ _ _ _ _) _ _ (inside _ (world _ _ _ _ _ _) _ c.in_ok-admit.ensures.answers) c.in-true.is _ c.slots_of-slots.ensures c.index-coordinators-c.result c.in-Locking.locking c.in-Locking.is c.in_default-peek.ensures.answers
 
 pub note_reply-outcome-requires : goal.note_reply-outcome-requires
 note_reply-outcome-requires g c = (sizes-of _ (inside _ (world _ _ _ _ _ _) _ c.in_ok-admit.ensures.answers).fine).machines.1
 
 pub returns : goal.returns
 returns g c =
-    takes-reply _ (world _ _ _ _ _ _) _ _ (inside _ (world _ _ _ _ _ _) _ c.in_ok-admit.ensures.answers) c.in-true.is c.index-coordinators-c.result c.in-Locking.locking c.in-Locking.is
+    takes-reply _ (world _ _ _ _ _ _) _ _ (inside _ (world _ _ _ _ _ _) _ c.in_ok-admit.ensures.answers) c.in-true.is _ c.slots_of-slots.ensures c.index-coordinators-c.result c.in-Locking.locking c.in-Locking.is
     (g.met.P.Memory.proper c.args.primaries.now) c.index-coordinators-c-2.result _ c.in-Some.ensures.answers (c.in-Some.ensures.stands refl)
     c.drop_front.result c.drop_front.new.self (search rules) (search rules) _ c.replied.ensures _ _ c.note_reply-outcome.ensures _ (search rules)

@@ -22,19 +22,19 @@ pub returns-in_default-3 : goal.returns-in_default-3
 returns-in_default-3 g c =
     write-used-up _ (world _ _ _ _ _ _) _ (inside _ (world _ _ _ _ _ _) _ c.in_ok-admit.ensures.answers) c.index-coordinators-c.result c.in-Open.is _ (search rules) _ _ c.in-Some.ensures (search rules)
 
-pub returns-in-Some-find : goal.returns-in-Some-find
-returns-in-Some-find g c =
+pub returns-then-is_written : goal.returns-then-is_written
+returns-then-is_written g c =
     writes_again _ (world _ _ _ _ _ _) _ (inside _ (world _ _ _ _ _ _) _ c.in_ok-admit.ensures.answers) c.index-coordinators-c.result
-    (g.met.P.Memory.proper c.args.primaries.now) c.index-coordinators-c-in-Some-find.result _ c.in-Open.is _ (search rules)
-    _ _ c.in-Some.ensures (search rules) _ c.in-Some-find.ensures c.note_again.ensures
+    (g.met.P.Memory.proper c.args.primaries.now) c.index-coordinators-c-then-is_written.result _ c.in-Open.is _ (search rules)
+    _ _ c.in-Some.ensures (search rules) (search rules) c.note_again.ensures
 
 pub returns-in_default-4 : goal.returns-in_default-4
 returns-in_default-4 g c =
     write-full _ (world _ _ _ _ _ _) _ (inside _ (world _ _ _ _ _ _) _ c.in_ok-admit.ensures.answers) c.index-coordinators-c.result c.in-Open.is _ (search rules) _ _ c.in-Some.ensures (search rules)
-    c.in_default-find-2.ensures (search rules)
+    (search rules) (search rules)
 
-pub returns : goal.returns
-returns g c =
+pub returns-in-true-3 : goal.returns-in-true-3
+returns-in-true-3 g c =
     writes-new _ (world _ _ _ _ _ _) _ (inside _ (world _ _ _ _ _ _) _ c.in_ok-admit.ensures.answers) c.index-coordinators-c.result
-    (g.met.P.Memory.proper c.args.primaries.now) c.index-coordinators-c-2.result _ c.in-Open.is _ (search rules)
-    _ _ c.in-Some.ensures (search rules) c.in_default-find-2.ensures (search rules) c.note_write.ensures
+    (g.met.P.Memory.proper c.args.primaries.now) c.index-coordinators-c-else-is_written.result _ c.in-Open.is _ (search rules)
+    _ _ c.in-Some.ensures (search rules) (search rules) (search rules) c.note_write.ensures

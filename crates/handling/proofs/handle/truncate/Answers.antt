@@ -7,11 +7,8 @@ use Rattle.ring.proofs.Going.{YieldsList-from_entries}
 use Rattle.protocol.specs.Record.{Note, note}
 use Rattle.protocol.specs.Lines.{backups}
 use Rattle.protocol.specs.Poll.{back_up_records}
-use Rattle.handling.proofs.Truncating.{in_order, in_order-polled, backed-none, backed-more}
+use Rattle.handling.proofs.Truncating.{in_order, in_order-polled, backed-more}
 use Rattle.handling.proofs.handle.truncate.Goals as goal
-
-pub loop-entry-init : goal.loop-entry-init
-loop-entry-init g c = λ s a b. backed-none _ _ _ _ _
 
 pub loop-entry-preserved : goal.loop-entry-preserved
 loop-entry-preserved g c = λ s a b.

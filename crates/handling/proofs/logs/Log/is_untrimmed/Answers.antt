@@ -1,21 +1,12 @@
 -- The last record decides, and with no record there is nothing to trim.
-use Rattle.std.proofs.Common.{◌≡◌, not, sym, ◌∙◌, arith, rules}
-use Rattle.protocol.specs.declared.record.Kind.TheVariants.{Truncate}
-use Rattle.protocol.specs.Record.{note, kind_eq}
-use Rattle.handling.specs.Notes.{notes}
-use Rattle.handling.proofs.Peeks.{peek-there, length-notes}
-use Rattle.handling.proofs.Trimming.{untrimmed-last, untrimmed-none}
+use Rattle.std.proofs.Common.{not, sym, ap, ◌∙◌, map}
+use Rattle.ring.proofs.Going.{left-none_back, left-some_back}
+use Rattle.protocol.specs.Record.{note, is_untrimmed}
+use Rattle.handling.proofs.Trimming.{untrimmed_last}
 use Rattle.handling.proofs.logs.Log.is_untrimmed.Goals as goal
 
-pub returns-then-self-eq0 : goal.returns-then-self-eq0
-returns-then-self-eq0 c = λ s. sym (untrimmed-none (notes c.args.self.now.ring.now c.args.self.now.slots.now) (omega (arith, length-notes c.args.self.now.ring.now c.args.self.now.slots.now s)))
-
 pub returns-in_default : goal.returns-in_default
-returns-in_default c = λ s. absurd (peek-there c.args.self.now.ring.now c.args.self.now.slots.now _ s (omega arith) (c.in_default.ensures s))
+returns-in_default c = λ s. ap (λ xs. is_untrimmed (map note xs)) (sym (left-none_back _ _ c.in_default.ensures.steps) ∙ c.entries.ensures.stands s)
 
 pub returns : goal.returns
-returns c = λ s.
-    let is : c.ne.result ≡ not (kind_eq c.in-Some.last.kind Truncate) = search rules in
-    is
-    ∙ sym (untrimmed-last (notes c.args.self.now.ring.now c.args.self.now.slots.now) c.args.self.now.ring.now.len (note c.in-Some.last) _
-    (length-notes c.args.self.now.ring.now c.args.self.now.slots.now s) (omega arith) (c.in-Some.ensures s))
+returns c = λ s. ap not c.is_truncate.ensures ∙ sym (untrimmed_last _ _ _ (left-some_back _ _ _ c.in-Some.ensures.steps)) ∙ ap (λ xs. is_untrimmed (map note xs)) (c.entries.ensures.stands s)

@@ -1,6 +1,6 @@
 -- The loop makes the calls in their order.
 use Rattle.std.proofs.Common.{◌∙◌, arith}
-use Rattle.service.proofs.Running.{runs-next, runs-all}
+use Rattle.service.proofs.Running.{runs-next}
 use Rattle.service.proofs.owner.Directory.run.Goals as goal
 
 pub loop-call-preserved : goal.loop-call-preserved
@@ -11,10 +11,3 @@ loop-call-preserved g c =
       c.call-answer.ensures.plan ∙ plan,
       runs-next _ _ _ _ _ c.args.calls.now c.loop-call.call-index _ _ _ _ plan c.loop-call-test.true c.loop-call.invariant.3 c.call-answer.ensures.does c.push_reserved.ensures.items,
     )
-
-pub returns : goal.returns
-returns g c = record {
-  runs = runs-all _ _ _ c.args.calls.now c.loop-call.call-index _ (omega arith) c.loop-call.invariant.3;
-  refused_unchanged = tt;
-  plan = c.loop-call.invariant.2;
-}
