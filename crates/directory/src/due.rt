@@ -67,6 +67,7 @@ impl Work {
     {
         match self.phase {
             Phase::Locking(locking) => {
+                // a field of a copy, since a struct with a ghost field has no literal with the rest of another
                 let mut locking = locking;
                 locking.due = due;
                 Phase::Locking(locking)
