@@ -3,7 +3,7 @@ ghost use Rattle.std.specs.Prelude.{◌≡◌, ◌<◌, length, OnOk};
 ghost use Rattle.std.specs.List.{list_all};
 ghost use Rattle.protocol.specs.Plan.{is_fine, has_fine_sizes, is_fine_home};
 ghost use Rattle.directory.specs.View.{world, is_fitting};
-ghost use Rattle.directory.specs.Checks.{admitted};
+ghost use Rattle.directory.specs.Checks.{admitted, machine_admitted};
 
 use crate::tables::Coordinator;
 use memory::interface::Memory;
@@ -103,6 +103,17 @@ pub(crate) fn admit<P: Memory, F: Memory, S: Memory>(
     };
     let true = c < plan.coordinators else {
         return Err(Refusal::NoCoordinator);
+    };
+    Ok(())
+}
+
+// The machine is there: poll, take and trim name one.
+pub(crate) fn admit_machine(plan: &Plan, m: u8) -> Result<(), Refusal>
+    ensures answers { result ≡ machine_admitted plan.now m }
+    ensures within { OnOk result (m < plan.now.machines) }
+{
+    let true = m < plan.machines else {
+        return Err(Refusal::NoMachine);
     };
     Ok(())
 }
