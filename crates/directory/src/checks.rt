@@ -7,6 +7,7 @@ ghost use Rattle.directory.specs.Checks.{admitted, machine_admitted};
 
 use crate::tables::Coordinator;
 use memory::interface::Memory;
+use memory::word::VERSION_END;
 use protocol::call::Refusal;
 use protocol::plan::{Home, Plan};
 use protocol::record::{Record, Reply};
@@ -36,7 +37,7 @@ fn sizes_ok(plan: &Plan) -> bool
         && (1..=4).contains(&plan.coordinators)
         && (1..=8).contains(&plan.regions)
         && (4..=16).contains(&plan.capacity)
-        && plan.start < 1 << 60
+        && plan.start < VERSION_END
 }
 
 pub fn plan_ok(plan: &Plan) -> bool
@@ -63,7 +64,7 @@ pub(crate) fn tables_ok<P: Memory, F: Memory, S: Memory>(
 {
     let count = plan.coordinators as usize;
     let logs = count * plan.machines as usize;
-    let size = 64 * plan.regions as usize;
+    let size = plan.size();
     count <= coordinators.len()
         && logs * plan.capacity as usize <= records.len()
         && logs * 4 <= replies.len()

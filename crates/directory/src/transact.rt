@@ -73,7 +73,7 @@ pub fn read<P: Memory, F: Memory, S: Memory>(
     let Phase::Open = own.work.phase else {
         return Err(Refusal::WrongPhase);
     };
-    let true = address < 64 * plan.regions as u16 else {
+    let true = (address as usize) < plan.size() else {
         return Err(Refusal::NoAddress);
     };
     if let Some(line) = own.work.reads.find(address) {
@@ -116,7 +116,7 @@ pub fn write<P: Memory, F: Memory, S: Memory>(
     let Phase::Open = own.work.phase else {
         return Err(Refusal::WrongPhase);
     };
-    let true = address < 64 * plan.regions as u16 else {
+    let true = (address as usize) < plan.size() else {
         return Err(Refusal::NoAddress);
     };
     let line = own.work.may_write(address)?;

@@ -10,12 +10,13 @@ ghost use Rattle.directory.specs.Work.{Leaves};
 
 use crate::tables::{Phase, Work};
 use memory::interface::Memory;
+use memory::word::VERSION_END;
 use protocol::call::Refusal;
 use protocol::lines::LineVec;
 use protocol::record::Line;
 
 // A word at this version can be read, and not written.
-const LAST_VERSION: u64 = (1 << 60) - 1;
+const LAST_VERSION: u64 = VERSION_END - 1;
 
 impl Work {
     // The value of a word that was read: the one last written, else the one read.

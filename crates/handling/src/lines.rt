@@ -12,6 +12,7 @@ ghost use Rattle.handling.specs.Held.{Held};
 
 use crate::room::home;
 use memory::interface::Memory;
+use memory::word::VERSION_END;
 use protocol::plan::Plan;
 use protocol::record::Line;
 
@@ -48,7 +49,7 @@ fn install_line<M: Memory>(memory: &mut M, line: &Line) -> bool
     ensures answers { result ≡ is_fit (length (M.words memory.old)) line.now }
     ensures after { M.words memory.new ≡ (if result then put (M.words memory.old) line.now.address (line.now.version + 1) line.now.value else M.words memory.old) }
 {
-    if line.version >= (1 << 60) - 1 {
+    if line.version >= VERSION_END - 1 {
         return false;
     }
     memory.put(line.address as usize, line.version + 1, line.value)

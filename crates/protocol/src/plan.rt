@@ -1,6 +1,8 @@
 // The plan of a directory: how many machines, coordinators and regions there are, and where each region's copies stand.
 ghost use Rattle.std.specs.Prelude.{◌≡◌, length};
 
+mod size;
+
 // The machines with a region's primary, first and second backup copy.
 #[derive(Clone, Copy, Debug, Default, PartialEq, Eq)]
 pub struct Home {
