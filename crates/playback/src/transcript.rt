@@ -1,17 +1,20 @@
 // The lines that a step file is answered with.
+ghost use Rattle.std.specs.Prelude.{◌≡◌, ◌++◌, OnOk, string_bytes};
+ghost use Rattle.playback.specs.Transcript.{answer_line};
+
 use crate::row::{Row, name};
-use memory::cells::Cells;
-use protocol::call::{Answer, Outcome};
+use memory::blank::Blank;
+use memory::interface::Memory;
+use protocol::call::{Answer, Outcome, Refusal};
 use protocol::plan::Plan;
 use service::make::Unmade;
 use service::owner::Directory;
 use std::alloc::{AllocError, Global};
 use std::fmt::Write;
+use std::iter::Enumerate;
 use steps::decode::Step;
 use steps::fault::{EntryFault, RunFault};
-use steps::sequence::Steps;
-
-type OfCells = Directory<Cells, Cells, Cells>;
+use steps::sequence::{IntoIter, Steps};
 
 // Why a file is not played to its end.
 enum Stop {
@@ -39,47 +42,79 @@ fn unmade(cause: Unmade, place: usize) -> Stop {
     }
 }
 
-// A directory of the plan over three memories of cells.
-fn directory(heap: Global, plan: Plan) -> Result<OfCells, Unmade> {
+// A directory of the plan over new memories.
+fn directory<P: Blank, F: Blank, S: Blank>(
+    heap: Global,
+    plan: Plan,
+) -> Result<Directory<P, F, S>, Unmade> {
     let n = 64 * plan.regions as usize;
-    let primaries = Cells::new(heap, n)?;
-    let firsts = Cells::new(heap, n)?;
-    let seconds = Cells::new(heap, n)?;
+    let primaries = P::blank(heap, n)?;
+    let firsts = F::blank(heap, n)?;
+    let seconds = S::blank(heap, n)?;
     Directory::new(heap, plan, primaries, firsts, seconds).map_err(|r| r.error)
 }
 
+// Adds the line of an entry: its number, its name, and the numbers of its answer.
+fn add_line(
+    out: &mut String,
+    entry: usize,
+    name: &str,
+    answer: Result<Answer, Refusal>,
+) -> Result<(), AllocError>
+    ensures { OnOk result (string_bytes out.new ≡ string_bytes out.old ++ answer_line entry name.now answer) }
+{
+    let row = Row::from(answer);
+    writeln!(out, "{entry} {name} {row}")
+}
+
+// Makes the calls behind the set-up.
+fn play_calls<P: Memory + Drop, F: Memory + Drop, S: Memory + Drop>(
+    out: &mut String,
+    mut directory: Directory<P, F, S>,
+    steps: Enumerate<IntoIter>,
+) -> Result<(), Stop> {
+    for (entry, placed) in steps {
+        let Step::Call(call) = placed?.step else {
+            return Ok(());
+        };
+        let answer = directory.call(call);
+        add_line(out, entry, name(call), answer)?;
+    }
+    Ok(())
+}
+
 // The set-up, and then the other entries.
-fn play(heap: Global, out: &mut String, bytes: &[u8]) -> Result<(), Stop> {
-    let mut steps = Steps::open(bytes)?.into_iter();
-    let Some(first) = steps.next() else {
+fn play<P: Blank, F: Blank, S: Blank>(
+    heap: Global,
+    out: &mut String,
+    bytes: &[u8],
+) -> Result<(), Stop> {
+    let mut steps = Steps::open(bytes)?.into_iter().enumerate();
+    let Some((entry, first)) = steps.next() else {
         return Ok(());
     };
     let first = first?;
     let Step::SetUp(plan) = first.step else {
         return Ok(());
     };
-    let mut directory = directory(heap, plan).map_err(|cause| unmade(cause, first.place))?;
-    let ready = Row::from(Ok(Answer {
+    let directory =
+        directory::<P, F, S>(heap, plan).map_err(|cause| unmade(cause, first.place))?;
+    let ready = Answer {
         first: 64 * plan.regions as u64,
         second: 0,
         outcome: Outcome::Going,
-    }));
-    writeln!(out, "0 setup {ready}")?;
-    for (entry, placed) in (1usize..).zip(steps) {
-        let Step::Call(call) = placed?.step else {
-            return Ok(());
-        };
-        let name = name(call);
-        let row = Row::from(directory.call(call));
-        writeln!(out, "{entry} {name} {row}")?;
-    }
-    Ok(())
+    };
+    add_line(out, entry, "setup", Ok(ready))?;
+    play_calls(out, directory, steps)
 }
 
 // Plays the file, and gives all the lines. A fault is the last of them.
-pub fn transcript(heap: Global, bytes: &[u8]) -> Result<String, AllocError> {
+pub fn transcript<P: Blank, F: Blank, S: Blank>(
+    heap: Global,
+    bytes: &[u8],
+) -> Result<String, AllocError> {
     let mut out = String::new(heap);
-    match play(heap, &mut out, bytes) {
+    match play::<P, F, S>(heap, &mut out, bytes) {
         Ok(()) => {}
         Err(Stop::Fault(fault)) => writeln!(out, "{fault}")?,
         Err(Stop::NoMemory(e)) => return Err(e),
