@@ -61,11 +61,13 @@ fault_in [] = []
 fault_in (Err f ∷ steps) = fault_line (OfEntry f)
 fault_in (Ok x ∷ steps) = behind x.step (fault_in steps)
 
--- behind an accepted set-up the calls are made, as the protocol makes them
+-- the calls behind an accepted set-up, as the protocol makes them, and the fault that ends them
+abbrev pub calls_told : Plan → List (Result Placed EntryFault) → List ℕ
+calls_told p steps = call_lines (run p (calls_in steps)).history ++ fault_in steps
+
 abbrev pub set_up_told : Plan → ℕ → List (Result Placed EntryFault) → Try ℕ → List ℕ
 set_up_told p place steps (Err refusal) = fault_line (OfSetUp refusal place)
-set_up_told p place steps (Ok n) =
-    answer_line 0 (codes "setup") (Ok (answered n 0 Going)) ++ call_lines (run p (calls_in steps)).history ++ fault_in steps
+set_up_told p place steps (Ok n) = answer_line 0 (codes "setup") (Ok (answered n 0 Going)) ++ calls_told p steps
 
 -- of which sizes there is a memory
 module _ (fits : ℕ → Bool) where

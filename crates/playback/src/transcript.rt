@@ -1,6 +1,11 @@
 // The lines that a step file is answered with.
-ghost use Rattle.std.specs.Prelude.{◌≡◌, ◌++◌, OnOk, string_bytes};
-ghost use Rattle.playback.specs.Transcript.{answer_line};
+ghost use Rattle.std.specs.Prelude.{◌≡◌, ◌++◌, ◌&&◌, OnOk, IfOk, string_bytes};
+ghost use Rattle.std.specs.Iterator.Adapters.{enumerate_source};
+ghost use Rattle.steps.specs.declared.fault.RunFault.TheVariants.{Entry};
+ghost use Rattle.steps.specs.Reading.{steps_left};
+ghost use Rattle.playback.specs.declared.transcript.Stop.TheVariants.{Fault, NoMemory};
+ghost use Rattle.playback.specs.Playing.{Plays, Numbered, Starts, Sets};
+ghost use Rattle.playback.specs.Transcript.{answer_line, calls_told, told_by, told};
 
 use crate::row::{Row, name};
 use memory::blank::Blank;
@@ -23,12 +28,16 @@ enum Stop {
 }
 
 impl From<EntryFault> for Stop {
+    ghost from_gives = { λ fault r. r ≡ Fault (Entry fault) };
+
     fn from(fault: EntryFault) -> Stop {
         Stop::Fault(fault.into())
     }
 }
 
 impl From<AllocError> for Stop {
+    ghost from_gives = { λ e r. r ≡ NoMemory e };
+
     fn from(e: AllocError) -> Stop {
         Stop::NoMemory(e)
     }
@@ -46,7 +55,9 @@ fn unmade(cause: Unmade, place: usize) -> Stop {
 fn directory<P: Blank, F: Blank, S: Blank>(
     heap: Global,
     plan: Plan,
-) -> Result<Directory<P, F, S>, Unmade> {
+) -> Result<Directory<P, F, S>, Unmade>
+    ensures { Sets P.words F.words S.words (λ n. P.fits n && (F.fits n && S.fits n)) plan result }
+{
     let n = 64 * plan.regions as usize;
     let primaries = P::blank(heap, n)?;
     let firsts = F::blank(heap, n)?;
@@ -72,7 +83,11 @@ fn play_calls<P: Memory + Drop, F: Memory + Drop, S: Memory + Drop>(
     out: &mut String,
     mut directory: Directory<P, F, S>,
     steps: Enumerate<IntoIter>,
-) -> Result<(), Stop> {
+) -> Result<(), Stop>
+    requires starts { Starts P.Memory.words F.Memory.words S.Memory.words directory }
+    requires numbered { Numbered steps }
+    ensures { Plays (string_bytes out.old) (string_bytes out.new) (calls_told directory.plan (steps_left (enumerate_source steps.entry))) result }
+{
     for (entry, placed) in steps {
         let Step::Call(call) = placed?.step else {
             return Ok(());
@@ -88,11 +103,14 @@ fn play<P: Blank, F: Blank, S: Blank>(
     heap: Global,
     out: &mut String,
     bytes: &[u8],
-) -> Result<(), Stop> {
+) -> Result<(), Stop>
+    ensures { Plays (string_bytes out.old) (string_bytes out.new) (told_by (λ n. P.fits n && (F.fits n && S.fits n)) bytes.now) result }
+{
     let mut steps = Steps::open(bytes)?.into_iter().enumerate();
-    let Some((entry, first)) = steps.next() else {
+    let Some(head) = steps.next() else {
         return Ok(());
     };
+    let (entry, first) = head;
     let first = first?;
     let Step::SetUp(plan) = first.step else {
         return Ok(());
@@ -112,7 +130,9 @@ fn play<P: Blank, F: Blank, S: Blank>(
 pub fn transcript<P: Blank, F: Blank, S: Blank>(
     heap: Global,
     bytes: &[u8],
-) -> Result<String, AllocError> {
+) -> Result<String, AllocError>
+    ensures { IfOk result (λ s. string_bytes s ≡ told_by (λ n. P.fits n && (F.fits n && S.fits n)) bytes.now) }
+{
     let mut out = String::new(heap);
     match play::<P, F, S>(heap, &mut out, bytes) {
         Ok(()) => {}

@@ -1,0 +1,2 @@
+mod Setting
+mod Playing
