@@ -1,5 +1,5 @@
 -- Calls that were played are those of a run of the protocol.
-use Rattle.std.proofs.Common.{◌≡◌, ℕ, suc, ◌+◌, ◌*◌, Bool, true, false, cond, ◌&&◌, eqb, leb, List, [], ◌∷◌, ◌++◌, length, Ok, Err, Result, sym, refl, ap, ◌∙◌, subst, append_assoc, append-nil, add-one, arith}
+use Rattle.std.proofs.Common.{◌≡◌, ℕ, suc, ◌+◌, ◌*◌, Bool, true, false, cond, ◌&&◌, leb, List, [], ◌∷◌, ◌++◌, length, Ok, Err, Result, sym, ap, ◌∙◌, subst, append_assoc, append-nil, add-one, arith}
 use Rattle.std.proofs.lemmas.Bool.{eq-eqb, le-leb}
 use Rattle.protocol.specs.declared.plan.Plan.{Plan}
 use Rattle.protocol.specs.declared.call.Call.{Call}
@@ -7,7 +7,7 @@ use Rattle.protocol.specs.declared.call.Answer.{Answer}
 use Rattle.protocol.specs.declared.call.Refusal.{Refusal}
 use Rattle.protocol.specs.declared.call.Refusal.TheVariants.{BadPlan, BadTables}
 use Rattle.protocol.specs.Lines.{Words}
-use Rattle.protocol.specs.Plan.{is_fine, size}
+use Rattle.protocol.specs.Plan.{is_fine}
 use Rattle.protocol.specs.State.{State, start}
 use Rattle.protocol.specs.Step.{Stepped, stepped, step, step_behind_checks, Run, extend, run_from, run}
 use Rattle.protocol.specs.Kept.{Invariants, ProperWords}
@@ -18,7 +18,7 @@ use Rattle.directory.specs.Calls.{Ready, Does}
 use Rattle.steps.specs.declared.fault.EntryFault.{EntryFault}
 use Rattle.steps.specs.declared.fault.RunFault.TheVariants.{Entry as OfEntry}
 use Rattle.steps.specs.declared.decode.Step.{Step}
-use Rattle.steps.specs.declared.decode.Step.TheVariants.{SetUp, Call as ACall}
+use Rattle.steps.specs.declared.decode.Step.TheVariants.{Call as ACall}
 use Rattle.steps.specs.declared.sequence.Placed.{Placed}
 use Rattle.playback.specs.Names.{name_of}
 use Rattle.playback.specs.Transcript.{answer_line, fault_line, call_lines, calls_in, fault_in, with_call, behind, calls_told}
@@ -38,6 +38,7 @@ all_six true b d e f g x y z u v w = all_five b d e f g y z u v w
     all_four : (d e f g : Bool) → d ≡ true → e ≡ true → f ≡ true → g ≡ true → (d && (e && (f && g))) ≡ true
     all_four true e f g x y z w = ap (λ (t : Bool). t && (f && g)) y ∙ ap (λ (t : Bool). t && g) z ∙ w
     all_four false e f g x y z w = x
+
     all_five : (b d e f g : Bool) → b ≡ true → d ≡ true → e ≡ true → f ≡ true → g ≡ true → (b && (d && (e && (f && g)))) ≡ true
     all_five true d e f g x y z u v = all_four d e f g y z u v
     all_five false d e f g x y z u v = x
@@ -100,7 +101,7 @@ module _ (p : Plan) (fine : is_fine p ≡ true) (all left : Steps) (was now : Li
         counted = ap suc h.counted;
         wrote = more ∙ ap (λ (cs : List ℕ). cs ++ answer_line n (name_of call) r) h.wrote ∙ append_assoc was _ _
             ∙ ap (λ (cs : List ℕ). was ++ (call_lines h.so_far.history ++ cs))
-              (ap (λ (k : ℕ). answer_line k (name_of call) r) h.counted ∙ ap (answer_line (suc (length h.so_far.history)) (name_of call)) answered);
+            (ap (λ (k : ℕ). answer_line k (name_of call) r) h.counted ∙ ap (answer_line (suc (length h.so_far.history)) (name_of call)) answered);
         calls = sym (ap (λ (t : Step). run_from p h.so_far (with_call t (calls_in left))) e) ∙ h.calls;
         fault = sym (ap (λ (t : Step). behind t (fault_in left)) e) ∙ h.fault;
       }

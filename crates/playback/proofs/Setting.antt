@@ -45,10 +45,14 @@ module _ {P F S : Type 0} (words_p : P → Words) (words_f : F → Words) (words
     made_of : (r : Result (Directory P F S) (Rejected Unmade (P × F × S))) (s : Result (Directory P F S) Unmade) → Makes words_p words_f words_s p xs ys zs r
         → MatchResult r (λ x. s ≡ Ok x) (λ e. IsErrAnd s (λ u. u ≡ e.error)) → Sets words_p words_f words_s fits p s
     made_of (Ok d) s m e =
-        subst (Sets words_p words_f words_s fits p) (sym e) (m.0, sym same ∙ m.1, record {
-          fine = ap is_fine m.0 ∙ accepted-fine (is_fine p) (size p) (sym (ap (set_up p) asked) ∙ m.1);
-          ready = subst (λ (q : Plan). Ready q (owned words_p words_f words_s d)) (sym m.0) m.2;
-        })
+        subst (Sets words_p words_f words_s fits p) (sym e) (
+          m.0,
+          sym same ∙ m.1,
+          record {
+            fine = ap is_fine m.0 ∙ accepted-fine (is_fine p) (size p) (sym (ap (set_up p) asked) ∙ m.1);
+            ready = subst (λ (q : Plan). Ready q (owned words_p words_f words_s d)) (sym m.0) m.2;
+          },
+        )
     made_of (Err h) (Ok d) m e = absurd e
     made_of (Err h) (Err u) m e = refused h.error u m.3 e
       where

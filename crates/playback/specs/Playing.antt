@@ -11,10 +11,14 @@ use Rattle.service.specs.declared.make.Unmade.{Unmade}
 use Rattle.service.specs.declared.make.Unmade.TheVariants.{Refused, NoMemory}
 use Rattle.service.specs.Owned.{owned}
 use Rattle.steps.specs.declared.sequence.IntoIter.{IntoIter}
+use Rattle.steps.specs.Frames.{Position}
 use Rattle.steps.specs.Reading.{steps_left}
+use Rattle.steps.specs.Sequence.{steps_from}
+use Rattle.steps.specs.declared.fault.EntryFault.{EntryFault}
+use Rattle.steps.specs.declared.fault.RunFault.TheVariants.{SetUp}
 use Rattle.playback.specs.declared.transcript.Stop.{Stop}
 use Rattle.playback.specs.declared.transcript.Stop.TheVariants.{Fault, NoMemory as OutOfMemory}
-use Rattle.playback.specs.Transcript.{fault_line, made}
+use Rattle.playback.specs.Transcript.{fault_line, made, start_of}
 
 -- The text was `was` and is `after`, and what was played is told. A fault is told by whoever gets it; want of memory is not told.
 abbrev pub Plays : List ℕ → List ℕ → List ℕ → Result (Unit {0}) Stop → Type 0
@@ -22,10 +26,20 @@ Plays was after told (Ok u) = after ≡ was ++ told
 Plays was after told (Err (Fault f)) = after ++ fault_line f ≡ was ++ told
 Plays was after told (Err (OutOfMemory e)) = Unit {0}
 
--- the steps behind the set-up, numbered from 1
-pub record Numbered (steps : Enumerate IntoIter) : Type 0 where
-  pub first : enumerate_count steps ≡ 1
+-- what stops the play where a set-up at a place made no directory
+abbrev pub stop_at : ℕ → Unmade → Stop
+stop_at place (Refused refusal) = Fault (SetUp refusal place)
+stop_at place (NoMemory e) = OutOfMemory e
+
+-- the steps that are left are numbered from n on; a file has no more of them than bytes
+pub record Numbered (n : ℕ) (steps : Enumerate IntoIter) : Type 0 where
+  pub first : enumerate_count steps ≡ n
   pub few : length (steps_left (enumerate_source steps)) ≤ 65536
+
+-- the steps of a file that opens, numbered from 0, or why it does not
+abbrev pub Opens : List ℕ → Result (Enumerate IntoIter) EntryFault → Type 0
+Opens bytes (Ok steps) = Numbered 0 steps × (start : Position) × (start_of bytes ≡ Ok start) × (steps_left (enumerate_source steps) ≡ steps_from start)
+Opens bytes (Err f) = start_of bytes ≡ Err f
 
 module _ {P F S : Type 0} (words_p : P → Words) (words_f : F → Words) (words_s : S → Words) where
   -- a directory in the protocol's start, for an accepted plan

@@ -1,5 +1,6 @@
 -- The lines that a step file is answered with.
 use Rattle.std.specs.Prelude.{ℕ, suc, Bool, true, cond, List, [], ◌∷◌, ◌++◌, length, codes, decimal, Ok, Err, Result}
+use Rattle.std.specs.Result.{result_map_both}
 use Rattle.protocol.specs.declared.plan.Plan.{Plan}
 use Rattle.protocol.specs.declared.call.Call.{Call}
 use Rattle.protocol.specs.declared.call.Answer.{Answer}
@@ -10,7 +11,6 @@ use Rattle.protocol.specs.Try.{Try}
 use Rattle.protocol.specs.Plan.{size}
 use Rattle.protocol.specs.Call.{Entry, answered, numbers}
 use Rattle.protocol.specs.Step.{set_up, run}
-use Rattle.steps.specs.declared.fault.FrameFault.{FrameFault}
 use Rattle.steps.specs.declared.fault.EntryFault.{EntryFault}
 use Rattle.steps.specs.declared.fault.EntryFault.TheVariants.{Frame}
 use Rattle.steps.specs.declared.fault.RunFault.{RunFault}
@@ -69,6 +69,10 @@ abbrev pub set_up_told : Plan → ℕ → List (Result Placed EntryFault) → Tr
 set_up_told p place steps (Err refusal) = fault_line (OfSetUp refusal place)
 set_up_told p place steps (Ok n) = answer_line 0 (codes "setup") (Ok (answered n 0 Going)) ++ calls_told p steps
 
+-- where the first step is read, or why the file does not open
+abbrev pub start_of : List ℕ → Result Position EntryFault
+start_of bytes = result_map_both (λ p. p) Frame (opened bytes)
+
 -- of which sizes there is a memory
 module _ (fits : ℕ → Bool) where
   -- a plan of a size that no memory has is a bad plan
@@ -85,13 +89,13 @@ module _ (fits : ℕ → Bool) where
   steps_told (Err f ∷ steps) = fault_line (OfEntry f)
   steps_told (Ok x ∷ steps) = first_told x.place steps x.step
 
-  abbrev pub opened_told : Result Position FrameFault → List ℕ
-  opened_told (Err f) = fault_line (OfEntry (Frame f))
+  abbrev pub opened_told : Result Position EntryFault → List ℕ
+  opened_told (Err f) = fault_line (OfEntry f)
   opened_told (Ok start) = steps_told (steps_from start)
 
   -- the text that the bytes of a step file are answered with
   unfoldable pub told_by : List ℕ → List ℕ
-  told_by bytes = opened_told (opened bytes)
+  told_by bytes = opened_told (start_of bytes)
 
 -- the same where there is a memory of every plan's size
 abbrev pub told : List ℕ → List ℕ

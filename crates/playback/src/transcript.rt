@@ -4,8 +4,8 @@ ghost use Rattle.std.specs.Iterator.Adapters.{enumerate_source};
 ghost use Rattle.steps.specs.declared.fault.RunFault.TheVariants.{Entry};
 ghost use Rattle.steps.specs.Reading.{steps_left};
 ghost use Rattle.playback.specs.declared.transcript.Stop.TheVariants.{Fault, NoMemory};
-ghost use Rattle.playback.specs.Playing.{Plays, Numbered, Starts, Sets};
-ghost use Rattle.playback.specs.Transcript.{answer_line, calls_told, told_by, told};
+ghost use Rattle.playback.specs.Playing.{Plays, Numbered, Opens, Starts, Sets, stop_at};
+ghost use Rattle.playback.specs.Transcript.{answer_line, calls_told, set_up_told, made, told_by};
 
 use crate::row::{Row, name};
 use memory::blank::Blank;
@@ -44,7 +44,9 @@ impl From<AllocError> for Stop {
 }
 
 // A set-up at a place made no directory.
-fn unmade(cause: Unmade, place: usize) -> Stop {
+fn unmade(cause: Unmade, place: usize) -> Stop
+    ensures { result ≡ stop_at place cause }
+{
     match cause {
         Unmade::Refused(refusal) => Stop::Fault(RunFault::SetUp { refusal, place }),
         Unmade::NoMemory(e) => Stop::NoMemory(e),
@@ -85,7 +87,7 @@ fn play_calls<P: Memory + Drop, F: Memory + Drop, S: Memory + Drop>(
     steps: Enumerate<IntoIter>,
 ) -> Result<(), Stop>
     requires starts { Starts P.Memory.words F.Memory.words S.Memory.words directory }
-    requires numbered { Numbered steps }
+    requires numbered { Numbered 1 steps }
     ensures { Plays (string_bytes out.old) (string_bytes out.new) (calls_told directory.plan (steps_left (enumerate_source steps.entry))) result }
 {
     for (entry, placed) in steps {
@@ -98,6 +100,34 @@ fn play_calls<P: Memory + Drop, F: Memory + Drop, S: Memory + Drop>(
     Ok(())
 }
 
+// The steps of the file, each with its entry's number.
+fn numbered<'a>(bytes: &'a [u8]) -> Result<Enumerate<IntoIter<'a>>, EntryFault>
+    ensures { Opens bytes.now result }
+{
+    Ok(Steps::open(bytes)?.into_iter().enumerate())
+}
+
+// Sets up a directory, and plays the steps behind the set-up, which is entry 0.
+fn play_plan<P: Blank, F: Blank, S: Blank>(
+    heap: Global,
+    out: &mut String,
+    plan: Plan,
+    place: usize,
+    steps: Enumerate<IntoIter>,
+) -> Result<(), Stop>
+    requires { Numbered 1 steps }
+    ensures { Plays (string_bytes out.old) (string_bytes out.new) (set_up_told plan place (steps_left (enumerate_source steps.entry)) (made (λ n. P.fits n && (F.fits n && S.fits n)) plan)) result }
+{
+    let directory = directory::<P, F, S>(heap, plan).map_err(|cause| unmade(cause, place))?;
+    let ready = Answer {
+        first: 64 * plan.regions as u64,
+        second: 0,
+        outcome: Outcome::Going,
+    };
+    add_line(out, 0, "setup", Ok(ready))?;
+    play_calls(out, directory, steps)
+}
+
 // The set-up, and then the other entries.
 fn play<P: Blank, F: Blank, S: Blank>(
     heap: Global,
@@ -106,24 +136,16 @@ fn play<P: Blank, F: Blank, S: Blank>(
 ) -> Result<(), Stop>
     ensures { Plays (string_bytes out.old) (string_bytes out.new) (told_by (λ n. P.fits n && (F.fits n && S.fits n)) bytes.now) result }
 {
-    let mut steps = Steps::open(bytes)?.into_iter().enumerate();
+    let mut steps = numbered(bytes)?;
     let Some(head) = steps.next() else {
         return Ok(());
     };
-    let (entry, first) = head;
+    let (_, first) = head;
     let first = first?;
     let Step::SetUp(plan) = first.step else {
         return Ok(());
     };
-    let directory =
-        directory::<P, F, S>(heap, plan).map_err(|cause| unmade(cause, first.place))?;
-    let ready = Answer {
-        first: 64 * plan.regions as u64,
-        second: 0,
-        outcome: Outcome::Going,
-    };
-    add_line(out, entry, "setup", Ok(ready))?;
-    play_calls(out, directory, steps)
+    play_plan::<P, F, S>(heap, out, plan, first.place, steps)
 }
 
 // Plays the file, and gives all the lines. A fault is the last of them.

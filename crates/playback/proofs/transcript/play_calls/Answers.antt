@@ -10,7 +10,7 @@ use Rattle.playback.proofs.transcript.play_calls.Goals as goal
 pub loop-entry-init : goal.loop-entry-init
 loop-entry-init g c =
     let same = c.into_iter-entry-iterator.ensures.into_iter_gives in
-    let numbered = subst Numbered (sym same) c.requires.numbered in (
+    let numbered = subst (Numbered 1) (sym same) c.requires.numbered in (
       (tt, tt, inl (omega (arith, numbered.first, numbered.few))),
       tt,
       refl,
