@@ -1,3 +1,4 @@
 mod Setting
 mod Playing
 mod Opening
+mod Sizes

@@ -5,7 +5,7 @@ ghost use Rattle.steps.specs.declared.fault.RunFault.TheVariants.{Entry};
 ghost use Rattle.steps.specs.Reading.{steps_left};
 ghost use Rattle.playback.specs.declared.transcript.Stop.TheVariants.{Fault, NoMemory};
 ghost use Rattle.playback.specs.Playing.{Plays, Numbered, Opens, Starts, Sets, stop_at};
-ghost use Rattle.playback.specs.Transcript.{answer_line, calls_told, set_up_told, made, told_by};
+ghost use Rattle.playback.specs.Transcript.{answer_line, calls_told, set_up_told, made, told_by, told, FitsPlans};
 
 use crate::row::{Row, name};
 use memory::blank::Blank;
@@ -149,11 +149,13 @@ fn play<P: Blank, F: Blank, S: Blank>(
 }
 
 // Plays the file, and gives all the lines. A fault is the last of them.
+#[tactic(auto, using(crate::proofs::Sizes::told_same))]
 pub fn transcript<P: Blank, F: Blank, S: Blank>(
     heap: Global,
     bytes: &[u8],
 ) -> Result<String, AllocError>
-    ensures { IfOk result (λ s. string_bytes s ≡ told_by (λ n. P.fits n && (F.fits n && S.fits n)) bytes.now) }
+    ensures by_size { IfOk result (λ s. string_bytes s ≡ told_by (λ n. P.fits n && (F.fits n && S.fits n)) bytes.now) }
+    ensures whatever_makes { FitsPlans (λ n. P.fits n && (F.fits n && S.fits n)) → IfOk result (λ s. string_bytes s ≡ told bytes.now) }
 {
     let mut out = String::new(heap);
     match play::<P, F, S>(heap, &mut out, bytes) {
