@@ -1,2 +1,4 @@
 pub mod Names
 pub mod Rows
+pub mod Transcript
+pub mod Playing

@@ -1,0 +1,4 @@
+mod Setting
+mod Playing
+mod Opening
+mod Sizes
