@@ -21,6 +21,7 @@ use Rattle.steps.specs.declared.decode.Step.{Step}
 use Rattle.steps.specs.declared.decode.Step.TheVariants.{Call as ACall}
 use Rattle.steps.specs.declared.sequence.Placed.{Placed}
 use Rattle.playback.specs.Names.{name_of}
+use Rattle.playback.specs.Playing.{Tells}
 use Rattle.playback.specs.Transcript.{answer_line, fault_line, call_lines, calls_in, fault_in, with_call, behind, calls_told}
 
 abbrev Steps : Type 0
@@ -118,13 +119,12 @@ module _ (p : Plan) (fine : is_fine p ≡ true) (all left : Steps) (was now : Li
   played-fault f rest h e = played-all (fault_line (OfEntry f)) h (ap calls_in e) (ap fault_in e)
 
 -- one call more, as a loop through the steps makes it
-pub played-next : (p q : Plan) (all was-left left : Steps) (was now now' name : List ℕ) (w w' : World) (n entry n' : ℕ) (item : Result Placed EntryFault) (x : Placed) (call : Call) (r : Result Answer Refusal)
-    → is_fine p ≡ true → q ≡ p → Played p all was w n was-left now → was-left ≡ item ∷ left → item ≡ Ok x → x.step ≡ ACall call → Long q w → Does q w w' r call
-    → entry ≡ n → n' ≡ n + 1 → name ≡ name_of call → now' ≡ now ++ answer_line entry name r
-    → Played p all was w' n' left now'
-played-next p q all was-left left was now now' name w w' n entry n' item x call r fine same h more taken is long does at next named text =
+pub played-next : (p q : Plan) (all was-left left : Steps) (was now now' : List ℕ) (w w' : World) (n entry n' : ℕ) (item : Result Placed EntryFault) (x : Placed) (call : Call)
+    → is_fine p ≡ true → q ≡ p → Played p all was w n was-left now → was-left ≡ item ∷ left → item ≡ Ok x → x.step ≡ ACall call → Long q w
+    → entry ≡ n → n' ≡ n + 1 → Tells q w w' entry call now now' → Played p all was w' n' left now'
+played-next p q all was-left left was now now' w w' n entry n' item x call fine same h more taken is long at next t =
     subst (λ (k : ℕ). Played p all was w' k left now') (sym (next ∙ add-one n))
-    (played-more p fine all left was now w n x call w' r now'
+    (played-more p fine all left was now w n x call w' t.0 now'
     (subst (λ (ss : Steps). Played p all was w n ss now) (more ∙ ap (λ i. i ∷ left) taken) h) is
-    (subst (λ (t : Plan). Long t w) same long) (subst (λ (t : Plan). Does t w w' r call) same does)
-    (text ∙ ap (λ (k : ℕ). now ++ answer_line k name r) at ∙ ap (λ (cs : List ℕ). now ++ answer_line n cs r) named))
+    (subst (λ (k : Plan). Long k w) same long) (subst (λ (k : Plan). Does k w w' t.0 call) same t.1)
+    (t.2 ∙ ap (λ (k : ℕ). now ++ answer_line k (name_of call) t.0) at))

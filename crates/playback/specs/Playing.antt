@@ -3,9 +3,13 @@ use Rattle.std.specs.Prelude.{◌≡◌, ℕ, ◌≤◌, Bool, true, List, ◌++
 use Rattle.std.specs.Iterator.Adapters.{enumerate_source, enumerate_count}
 use Rattle.std.specs.declared.iter.Enumerate.{Enumerate}
 use Rattle.protocol.specs.declared.plan.Plan.{Plan}
+use Rattle.protocol.specs.declared.call.Call.{Call}
+use Rattle.protocol.specs.declared.call.Answer.{Answer}
+use Rattle.protocol.specs.declared.call.Refusal.{Refusal}
 use Rattle.protocol.specs.Lines.{Words}
 use Rattle.protocol.specs.Plan.{is_fine, size}
-use Rattle.directory.specs.Calls.{Ready}
+use Rattle.directory.specs.View.{World}
+use Rattle.directory.specs.Calls.{Does, Ready}
 use Rattle.service.specs.declared.owner.Directory.{Directory}
 use Rattle.service.specs.declared.make.Unmade.{Unmade}
 use Rattle.service.specs.declared.make.Unmade.TheVariants.{Refused, NoMemory}
@@ -18,7 +22,12 @@ use Rattle.steps.specs.declared.fault.EntryFault.{EntryFault}
 use Rattle.steps.specs.declared.fault.RunFault.TheVariants.{SetUp}
 use Rattle.playback.specs.declared.transcript.Stop.{Stop}
 use Rattle.playback.specs.declared.transcript.Stop.TheVariants.{Fault, NoMemory as OutOfMemory}
-use Rattle.playback.specs.Transcript.{fault_line, made, start_of}
+use Rattle.playback.specs.Names.{name_of}
+use Rattle.playback.specs.Transcript.{answer_line, fault_line, made, start_of}
+
+-- a call does what it promises, and the text has its line behind what it had
+abbrev pub Tells : Plan → World → World → ℕ → Call → List ℕ → List ℕ → Type 0
+Tells p was after n call before now = (r : Result Answer Refusal) × Does p was after r call × (now ≡ before ++ answer_line n (name_of call) r)
 
 -- The text was `was` and is `after`, and what was played is told. A fault is told by whoever gets it; want of memory is not told.
 abbrev pub Plays : List ℕ → List ℕ → List ℕ → Result (Unit {0}) Stop → Type 0

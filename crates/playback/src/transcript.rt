@@ -1,16 +1,17 @@
 // The lines that a step file is answered with.
 ghost use Rattle.std.specs.Prelude.{◌≡◌, ◌++◌, ◌&&◌, OnOk, IfOk, string_bytes};
 ghost use Rattle.std.specs.Iterator.Adapters.{enumerate_source};
+ghost use Rattle.service.specs.Owned.{owned};
 ghost use Rattle.steps.specs.declared.fault.RunFault.TheVariants.{Entry};
 ghost use Rattle.steps.specs.Reading.{steps_left};
 ghost use Rattle.playback.specs.declared.transcript.Stop.TheVariants.{Fault, NoMemory};
-ghost use Rattle.playback.specs.Playing.{Plays, Numbered, Opens, Starts, Sets, stop_at};
+ghost use Rattle.playback.specs.Playing.{Tells, Plays, Numbered, Opens, Starts, Sets, stop_at};
 ghost use Rattle.playback.specs.Transcript.{answer_line, calls_told, set_up_told, made, told_by, told, FitsPlans};
 
 use crate::row::{Row, name};
 use memory::blank::Blank;
 use memory::interface::Memory;
-use protocol::call::{Answer, Outcome, Refusal};
+use protocol::call::{Answer, Call, Outcome, Refusal};
 use protocol::plan::Plan;
 use service::make::Unmade;
 use service::owner::Directory;
@@ -80,6 +81,20 @@ fn add_line(
     writeln!(out, "{entry} {name} {row}")
 }
 
+// Makes the call of an entry, and adds its line.
+fn play_call<P: Memory, F: Memory, S: Memory>(
+    out: &mut String,
+    directory: &mut Directory<P, F, S>,
+    entry: usize,
+    call: Call,
+) -> Result<(), AllocError>
+    ensures tells { OnOk result (Tells directory.old.plan (owned P.words F.words S.words directory.old) (owned P.words F.words S.words directory.new) entry call (string_bytes out.old) (string_bytes out.new)) }
+    ensures plan { directory.new.plan ≡ directory.old.plan }
+{
+    let answer = directory.call(call);
+    add_line(out, entry, name(call), answer)
+}
+
 // Makes the calls behind the set-up.
 fn play_calls<P: Memory + Drop, F: Memory + Drop, S: Memory + Drop>(
     out: &mut String,
@@ -94,8 +109,7 @@ fn play_calls<P: Memory + Drop, F: Memory + Drop, S: Memory + Drop>(
         let Step::Call(call) = placed?.step else {
             return Ok(());
         };
-        let answer = directory.call(call);
-        add_line(out, entry, name(call), answer)?;
+        play_call(out, &mut directory, entry, call)?;
     }
     Ok(())
 }

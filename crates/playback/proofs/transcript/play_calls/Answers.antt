@@ -28,8 +28,8 @@ loop-entry-preserved g c =
     let turn = c.in-Some.ensures.steps in (
       search rules,
       search rules,
-      c.call-answer.ensures.plan ∙ h.2,
-      played-next _ c.loop-entry.directory.plan _ _ _ _ _ _ _ _ _ _ _ _ _ c.in_ok-call.field-0 _ _ c.requires.starts.fine h.2 h.3 turn.0 c.in_ok-call.was c.in-Call.is
+      c.play_call.ensures.plan ∙ h.2,
+      played-next _ c.loop-entry.directory.plan _ _ _ _ _ _ _ _ _ _ _ _ c.in_ok-call.field-0 _ c.requires.starts.fine h.2 h.3 turn.0 c.in_ok-call.was c.in-Call.is
           (record { coordinators = c.loop-entry.directory.coordinators_fit; records = c.loop-entry.directory.records_fit; replies = c.loop-entry.directory.replies_fit })
-          c.call-answer.ensures.does turn.1 turn.2 c.name.ensures c.in_ok-add_line.ensures,
+          turn.1 turn.2 c.in_ok-play_call.ensures.tells,
     )
