@@ -28,6 +28,10 @@ accepted-fine false k e = cc
 all-three : (x y z : Bool) → x ≡ true → y ≡ true → z ≡ true → (x && (y && z)) ≡ true
 all-three x y z e f g = ap (λ (t : Bool). t && (y && z)) e ∙ ap (λ (t : Bool). t && z) f ∙ g
 
+-- a memory of the size that the code asks for
+pub asked-for : {X : Type 0} (words : X → Words) (fits : ℕ → Bool) (x : X) (n m : ℕ) → n ≡ m → (fits n ≡ true) × (words x ≡ blanks n) → (fits m ≡ true) × (words x ≡ blanks m)
+asked-for words fits x n m e h = subst (λ (k : ℕ). (fits k ≡ true) × (words x ≡ blanks k)) e h
+
 sized : (p : Plan) (ws : Words) → ws ≡ blanks (size p) → eqb (length ws) (size p) ≡ true
 sized p ws e = eq-eqb _ _ (ap length e ∙ length-replicate (size p) blank)
 

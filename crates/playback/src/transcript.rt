@@ -61,7 +61,7 @@ fn directory<P: Blank, F: Blank, S: Blank>(
 ) -> Result<Directory<P, F, S>, Unmade>
     ensures { Sets P.words F.words S.words (λ n. P.fits n && (F.fits n && S.fits n)) plan result }
 {
-    let n = 64 * plan.regions as usize;
+    let n = plan.size();
     let primaries = P::blank(heap, n)?;
     let firsts = F::blank(heap, n)?;
     let seconds = S::blank(heap, n)?;
@@ -133,11 +133,7 @@ fn play_plan<P: Blank, F: Blank, S: Blank>(
     ensures { Plays (string_bytes out.old) (string_bytes out.new) (set_up_told plan place (steps_left (enumerate_source steps.entry)) (made (λ n. P.fits n && (F.fits n && S.fits n)) plan)) result }
 {
     let directory = directory::<P, F, S>(heap, plan).map_err(|cause| unmade(cause, place))?;
-    let ready = Answer {
-        first: 64 * plan.regions as u64,
-        second: 0,
-        outcome: Outcome::Going,
-    };
+    let ready = Answer::new(plan.size() as u64, 0, Outcome::Going);
     add_line(out, 0, "setup", Ok(ready))?;
     play_calls(out, directory, steps)
 }
