@@ -3,7 +3,8 @@
 
 usage: python3 tools/plant.py [--crate NAME] [--label WORD] [--jobs N] [--run] [EDIT or FOLDER ..]
 
-An edit is a file CRATE/LABEL.edit in the format of a must-fail edit; with none named, those of tools/planted are tried.
+An edit is a file CRATE/LABEL.edit in the format of a must-fail edit, or such an edit itself; with none named, those of
+tools/planted are tried.
 Each is applied to a copy of the checkout with all that was built, and that crate is checked. So check all crates first.
   refused   a contract, or what a call needs, is not proved; behind it the first place that the prover names
   answer    refused, and the first place is a proof by hand: look whether the fact is wrong or only the proof's words
@@ -40,6 +41,10 @@ def held(path):
 def rt(folder, *words, given=b""):
     done = subprocess.run(["rt", *words], cwd=folder, input=given, stdout=subprocess.PIPE, stderr=subprocess.PIPE)
     return done.returncode, done.stdout.decode(errors="replace"), done.stderr.decode(errors="replace")
+
+
+def crate_of(edit):
+    return os.path.basename(os.path.dirname(edit).removesuffix("/must-fail"))
 
 
 def programs(name):
@@ -114,7 +119,7 @@ def failures(copy, crate):
 
 def plant(edit, copies, always):
     """Tries one edit in a copy that no other job uses."""
-    crate = os.path.basename(os.path.dirname(edit))
+    crate = crate_of(edit)
     copy = copies.get()
     folder = f"{copy}/crates/{crate}"
     texts, why = applied(edit, folder)
@@ -140,7 +145,7 @@ def wanted(options):
     for name in options.edits or [f"{ROOT}/tools/planted"]:
         edits += [f"{at}/{file}" for at, _, files in os.walk(name) for file in files if file.endswith(".edit")] or [name]
     edits = sorted(os.path.abspath(edit) for edit in edits)
-    edits = [edit for edit in edits if os.path.basename(os.path.dirname(edit)) in options.crate or not options.crate]
+    edits = [edit for edit in edits if crate_of(edit) in options.crate or not options.crate]
     return [edit for edit in edits if not options.label or any(word in os.path.basename(edit) for word in options.label)]
 
 
