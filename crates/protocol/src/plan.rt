@@ -24,5 +24,5 @@ pub struct Plan {
     pub first: u64,
     pub homes: [Home; 8],
     // an array behind a reference does not bring its length
-    ghost eight: { length homes ≡ 8 },
+    pub ghost eight: { length homes ≡ 8 },
 }
