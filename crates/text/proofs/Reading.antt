@@ -1,5 +1,5 @@
 -- What is read of words and lines.
-use Rattle.std.proofs.Common.{◌≡◌, ℕ, ◌^◌, ◌<◌, ◌≤◌, ◌&&◌, true, cond, ltb, List, length, Some, None, Option, Ok, Err, Result, sym, refl, ap, ◌∙◌, rules, arith}
+use Rattle.std.proofs.Common.{◌≡◌, ℕ, ◌^◌, ◌<◌, ◌≤◌, true, cond, ltb, List, length, Some, None, Option, Ok, Err, Result, sym, ap, ◌∙◌, rules, arith}
 use Rattle.std.specs.Char.{is_ascii_digit}
 use Rattle.std.specs.List.{list_all}
 use Rattle.std.specs.Option.{ok_or}
@@ -7,7 +7,7 @@ use Rattle.steps.specs.declared.kind.EntryKind.{EntryKind}
 use Rattle.steps.specs.declared.kind.UnknownName.{UnknownName}
 use Rattle.std.specs.Result.{result_or, OkIff}
 use Rattle.std.specs.Str.Parse.{ParsesUnsigned, digits_value}
-use Rattle.std.proofs.lemmas.Bool.{lt-ltb, le-ltb, and_parts, ltb-true, cond-true, cond-false, cases_lt}
+use Rattle.std.proofs.lemmas.Bool.{lt-ltb, le-ltb, and_parts, ltb-true, cond-true, cond-false}
 use Rattle.std.proofs.lemmas.Str.Parse.{IsNumeralModel, numerals_by_value, parse_digits}
 use Rattle.text.specs.declared.fault.LineFault.{LineFault}
 use Rattle.text.specs.declared.fault.LineFault.TheVariants.{UnknownStep, NotANumber, TooBig, WrongCount, FileTooLong, NoMemory}

@@ -1,5 +1,5 @@
 -- Where the fields or the numbers end, their bytes are all there.
-use Rattle.std.proofs.Common.{◌≡◌, ℕ, length, min, vec_items, ap, ◌∙◌}
+use Rattle.std.proofs.Common.{◌≡◌, length, min, vec_items, ap, ◌∙◌}
 use Rattle.std.proofs.lemmas.Slice.Zip.{zip_end}
 use Rattle.text.specs.Fields.{behind}
 use Rattle.text.proofs.Filling.{none_left, behind-nothing}

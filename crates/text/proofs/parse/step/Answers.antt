@@ -1,5 +1,5 @@
 -- The entry of a step of a known kind is that of its numbers.
-use Rattle.std.proofs.Common.{◌≡◌, ℕ, List, map, Ok, Err, Result, vec_items, sym, ap, ◌∙◌, subst}
+use Rattle.std.proofs.Common.{◌≡◌, ℕ, List, map, Err, Result, vec_items, sym, ap, ◌∙◌, subst}
 use Rattle.std.proofs.lemmas.Result.{err_from_is_err_and}
 use Rattle.steps.specs.Kinds.{kind_named}
 use Rattle.text.specs.declared.fault.LineFault.{LineFault}

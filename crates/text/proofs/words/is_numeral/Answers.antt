@@ -1,5 +1,5 @@
 -- All bytes of a word that is not empty are asked for.
-use Rattle.std.proofs.Common.{◌≡◌, ◌&&◌, ℕ, true, ltb, length, Bool, sym, ap, ◌∙◌, arith, rules, tests}
+use Rattle.std.proofs.Common.{◌≡◌, ◌&&◌, true, ltb, length, Bool, sym, ap, ◌∙◌, rules, tests}
 use Rattle.std.specs.Char.{is_ascii_digit}
 use Rattle.std.specs.List.{list_all}
 use Rattle.std.proofs.lemmas.Iterator.Search.{all_from_yields_List}

@@ -1,5 +1,5 @@
 -- Digits are read as their number, unless it is too big.
-use Rattle.std.proofs.Common.{◌∙◌, arith, rules}
+use Rattle.std.proofs.Common.{◌∙◌, rules}
 use Rattle.text.proofs.Reading.{number-parsed}
 use Rattle.text.proofs.words.number.Goals as goal
 

@@ -1,7 +1,7 @@
 -- The words of what stands before the comment.
-use Rattle.std.proofs.Common.{◌≡◌, List, ℕ, map, IfOk, vec_items, ap, ◌∙◌, subst}
+use Rattle.std.proofs.Common.{◌≡◌, List, ℕ, map, IfOk, vec_items, ap, subst}
 use Rattle.std.proofs.lemmas.Iterator.Consumers.{map_from_collect}
-use Rattle.text.specs.Words.{parts, words}
+use Rattle.text.specs.Words.{parts}
 use Rattle.text.proofs.Splitting.{parts-yielded}
 use Rattle.text.proofs.words.words.Goals as goal
 
