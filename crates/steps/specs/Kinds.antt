@@ -42,6 +42,10 @@ kind_name Trim = codes "trim"
 abbrev pub kinds : List EntryKind
 kinds = SetUp ∷ Open ∷ Read ∷ Write ∷ Abandon ∷ Commit ∷ Send ∷ Poll ∷ Take ∷ Check ∷ Trim ∷ []
 
+-- the first of some kinds that has this name
+unfoldable pub first_named : List EntryKind → List ℕ → Option EntryKind
+first_named kinds name = find (λ kind. bytes_eq (kind_name kind) name) kinds
+
 -- the kind of this name, if one has it
-unfoldable pub kind_named : List ℕ → Option EntryKind
-kind_named name = find (λ kind. bytes_eq (kind_name kind) name) kinds
+abbrev pub kind_named : List ℕ → Option EntryKind
+kind_named name = first_named kinds name

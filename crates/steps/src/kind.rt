@@ -1,7 +1,7 @@
 // The kinds of entries.
 ghost use Rattle.std.specs.Prelude.{◌≡◌};
 ghost use Rattle.std.specs.Option.{ok_or};
-ghost use Rattle.steps.specs.Kinds.{IsKindOf, kind_number, kind_name, kind_named};
+ghost use Rattle.steps.specs.Kinds.{IsKindOf, kind_number, kind_name, first_named, kind_named};
 ghost use Rattle.steps.specs.declared.kind.UnknownName.{UnknownName};
 
 use std::str::FromStr;
@@ -97,13 +97,20 @@ impl TryFrom<u8> for EntryKind {
 #[derive(Clone, Copy, Debug, PartialEq, Eq)]
 pub struct UnknownName;
 
+// The first of the kinds that has the name.
+#[tactic(auto, unfolding(crate::specs::Kinds::first_named))]
+fn named(kinds: &[EntryKind], name: &str) -> Option<EntryKind>
+    ensures { result ≡ first_named kinds.now name.now }
+{
+    kinds.iter().copied().find(|kind| kind.name() == name)
+}
+
 impl FromStr for EntryKind {
     type Err = UnknownName;
 
     ghost from_str_gives = { λ name r. r ≡ ok_or (kind_named name) (record {}) };
 
     fn from_str(name: &str) -> Result<Self, UnknownName> {
-        let kind = KINDS.iter().copied().find(|kind| kind.name() == name);
-        kind.ok_or(UnknownName)
+        named(&KINDS, name).ok_or(UnknownName)
     }
 }

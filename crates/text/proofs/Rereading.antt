@@ -13,7 +13,7 @@ use Rattle.std.proofs.lemmas.List.Sums.{AllPass-from_list_all, position_or_len_i
 use Rattle.std.proofs.lemmas.Str.Parse.{digit_from_value}
 use Rattle.steps.specs.declared.kind.EntryKind.{EntryKind}
 use Rattle.steps.specs.declared.kind.EntryKind.TheVariants.{SetUp, Open, Read, Write, Abandon, Commit, Send, Poll, Take, Check, Trim}
-use Rattle.steps.specs.Kinds.{kind_name, kind_named}
+use Rattle.steps.specs.Kinds.{first_named, kind_name, kind_named}
 use Rattle.text.specs.Fields.{behind, entry_of}
 use Rattle.text.specs.Parsing.{step_read, entry_read, line_read}
 use Rattle.text.specs.Printing.{spaced, line}
@@ -127,7 +127,7 @@ numbers-back (n ∷ ns) fit =
     ∙ ap (behind (n ∷ [])) (numbers-back ns fit.1)
 
 name-back : (kind : EntryKind) → kind_named (kind_name kind) ≡ Some kind
-unfolding kind_named
+unfolding first_named
 name-back SetUp = refl
 name-back Open = refl
 name-back Read = refl

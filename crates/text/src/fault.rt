@@ -132,8 +132,8 @@ impl fmt::Display for FileFault {
 
     fn fmt<W: fmt::Write>(&self, f: &mut fmt::Formatter<W>) -> fmt::Result {
         match *self {
-            FileFault::Entry(fault) => {
-                let fault = RunFault::from(fault);
+            FileFault::Entry(entry) => {
+                let fault = RunFault::from(entry);
                 write!(f, "{fault}")
             }
             FileFault::NoMemory(_) => write!(f, "out of memory"),

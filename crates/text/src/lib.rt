@@ -5,4 +5,6 @@ pub mod fault;
 mod fields;
 pub mod parse;
 pub mod print;
+#[cfg(test)]
+mod tests;
 mod words;
