@@ -1,0 +1,5 @@
+pub mod Faults
+pub mod Fields
+pub mod Words
+pub mod Parsing
+pub mod Printing
