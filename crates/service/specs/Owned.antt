@@ -1,5 +1,6 @@
 -- What a directory owns, as what a caller would lend.
-use Rattle.std.specs.Prelude.{vec_items}
+use Rattle.std.specs.Prelude.{ℕ, List, [], ◌∷◌, Option, vec_items}
+use Rattle.memory.specs.Words.{look_at}
 use Rattle.protocol.specs.Lines.{Words}
 use Rattle.directory.specs.View.{World, world}
 use Rattle.service.specs.declared.owner.Directory.{Directory}
@@ -7,3 +8,7 @@ use Rattle.service.specs.declared.owner.Directory.{Directory}
 -- given the words that each memory means
 abbrev pub owned : {P F S : Type 0} → (P → Words) → (F → Words) → (S → Words) → Directory P F S → World
 owned p f s d = world (vec_items d.tables.coordinators) (vec_items d.tables.records) (vec_items d.tables.replies) (p d.primaries) (f d.firsts) (s d.seconds)
+
+-- a word's copies stand at its address in the three memories: the primary, the first and the second backup
+abbrev pub copies : World → ℕ → List (Option (ℕ × ℕ × ℕ))
+copies w a = look_at w.primaries a ∷ look_at w.firsts a ∷ look_at w.seconds a ∷ []
