@@ -1,7 +1,9 @@
 -- What a directory owns, as what a caller would lend.
-use Rattle.std.specs.Prelude.{ℕ, List, [], ◌∷◌, Option, vec_items}
+use Rattle.std.specs.Prelude.{ℕ, Bool, true, false, List, [], ◌∷◌, Option, vec_items}
 use Rattle.memory.specs.Words.{look_at}
 use Rattle.protocol.specs.Lines.{Words}
+use Rattle.directory.specs.declared.tables.Phase.{Phase}
+use Rattle.directory.specs.declared.tables.Phase.TheVariants.{Idle, Open, Locking, Checking, Backing, Installing, Aborting}
 use Rattle.directory.specs.View.{World, world}
 use Rattle.service.specs.declared.owner.Directory.{Directory}
 
@@ -12,3 +14,13 @@ owned p f s d = world (vec_items d.tables.coordinators) (vec_items d.tables.reco
 -- a word's copies stand at its address in the three memories: the primary, the first and the second backup
 abbrev pub copies : World → ℕ → List (Option (ℕ × ℕ × ℕ))
 copies w a = look_at w.primaries a ∷ look_at w.firsts a ∷ look_at w.seconds a ∷ []
+
+-- a coordinator in this phase has no transaction
+abbrev pub is_resting : Phase → Bool
+is_resting Idle = true
+is_resting Open = false
+is_resting (Locking l) = false
+is_resting (Checking passed) = false
+is_resting (Backing due) = false
+is_resting (Installing due reported) = false
+is_resting (Aborting due) = false

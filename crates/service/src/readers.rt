@@ -2,7 +2,7 @@
 ghost use Rattle.std.specs.Prelude.{◌≡◌};
 ghost use Rattle.protocol.specs.Coordinator.{is_idle};
 ghost use Rattle.directory.specs.View.{view};
-ghost use Rattle.service.specs.Owned.{owned, copies};
+ghost use Rattle.service.specs.Owned.{owned, copies, is_resting};
 
 use crate::owner::Directory;
 use directory::tables::Phase;
@@ -10,6 +10,13 @@ use memory::interface::Memory;
 
 // A word's version, holder and value, or nothing where there is no such word.
 type Seen = Option<(u64, u8, u64)>;
+
+// There is no transaction.
+fn is_resting(phase: &Phase) -> bool
+    ensures { result ≡ is_resting phase.now }
+{
+    matches!(phase, Phase::Idle)
+}
 
 impl<P: Memory, F: Memory, S: Memory> Directory<P, F, S> {
     // Whether coordinator c has no transaction under way. One that is not there has none.
@@ -20,7 +27,7 @@ impl<P: Memory, F: Memory, S: Memory> Directory<P, F, S> {
             return true;
         }
         match self.tables.coordinators.get(c as usize) {
-            Some(own) => matches!(own.work.phase, Phase::Idle),
+            Some(own) => is_resting(&own.work.phase),
             None => true,
         }
     }

@@ -1,5 +1,5 @@
 -- What the calls of tickets promise, from what the directory's calls do.
-use Rattle.std.proofs.Common.{◌≡◌, ℕ, Bool, true, false, not, eqb, ◌⊎◌, Some, Ok, Err, Result, IfOk, sym, refl, ap, ◌∙◌, subst, ⊎_elim}
+use Rattle.std.proofs.Common.{◌≡◌, ℕ, true, not, eqb, Some, Ok, Err, Result, IfOk, sym, refl, ap, ◌∙◌, subst, ⊎_elim}
 use Rattle.std.proofs.lemmas.Bool.{eq-eqb, cases_eq, false≢true}
 use Rattle.memory.specs.declared.make.Rejected.{Rejected}
 use Rattle.protocol.specs.declared.plan.Plan.{Plan}
