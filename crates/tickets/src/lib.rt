@@ -4,3 +4,5 @@
 pub mod draft;
 pub mod filing;
 pub mod standing;
+#[cfg(test)]
+mod tests;
