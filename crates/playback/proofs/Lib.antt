@@ -2,3 +2,4 @@ mod Setting
 mod Playing
 mod Opening
 mod Sizes
+mod Fronts
