@@ -48,7 +48,8 @@ fn install_line<M: Memory>(memory: &mut M, line: &Line) -> bool
     ensures answers { result ≡ is_fit (length (M.words memory.old)) line.now }
     ensures after { M.words memory.new ≡ (if result then put (M.words memory.old) line.now.address (line.now.version + 1) line.now.value else M.words memory.old) }
 {
-    memory.put(line.address as usize, line.version.saturating_add(1), line.value)
+    let next = line.version.saturating_add(1);
+    memory.put(line.address as usize, next, line.value)
 }
 
 // Installs each line, and counts them.
