@@ -72,15 +72,18 @@ impl Account<'_> {
         Account { rt, shown: Ok(()) }
     }
 
+    pub fn say(&mut self, line: impl fmt::Display + Drop) {
+        if self.shown.is_ok() {
+            self.shown = println!(self.rt; "{line}");
+        }
+    }
+
     // A refused call did nothing, and is left out.
     pub fn note(&mut self, call: Call, answer: Result<Answer, Refusal>) {
         let Ok(answer) = answer else {
             return;
         };
-        if self.shown.is_ok() {
-            let line = Line { call, answer };
-            self.shown = println!(self.rt; "{line}");
-        }
+        self.say(Line { call, answer });
     }
 
     // Whether all was printed.

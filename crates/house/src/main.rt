@@ -163,6 +163,7 @@ fn change(house: &mut House, account: &mut Account<'_>) -> Result<Option<Outcome
     let Ok(draft) = Draft::open(house, COORDINATOR) else {
         return Ok(None);
     };
+    account.say("open a transaction");
     edit(&draft, house, account);
     match draft.commit(house) {
         Ok(Progress::GoesOn(filing, answer)) => {
