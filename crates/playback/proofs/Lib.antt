@@ -3,3 +3,5 @@ mod Playing
 mod Opening
 mod Sizes
 mod Fronts
+mod Lines
+mod Counting

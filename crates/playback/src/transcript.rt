@@ -6,7 +6,7 @@ ghost use Rattle.steps.specs.declared.fault.RunFault.TheVariants.{Entry};
 ghost use Rattle.steps.specs.Reading.{steps_left};
 ghost use Rattle.playback.specs.declared.transcript.Stop.TheVariants.{Fault, NoMemory};
 ghost use Rattle.playback.specs.Playing.{Tells, Plays, Numbered, Opens, Starts, Sets, stop_at};
-ghost use Rattle.playback.specs.Laws.{KeepsFronts};
+ghost use Rattle.playback.specs.Laws.{HasALineForEach, KeepsFronts};
 ghost use Rattle.playback.specs.Transcript.{answer_line, calls_told, set_up_told, made, told_by, told, FitsPlans};
 
 use crate::row::{Row, name};
@@ -166,6 +166,7 @@ pub fn transcript<P: Blank, F: Blank, S: Blank>(
     bytes: &[u8],
 ) -> Result<String, AllocError>
     ensures by_size { IfOk result (λ s. string_bytes s ≡ told_by (λ n. P.fits n && (F.fits n && S.fits n)) bytes.now) }
+    ensures lines { IfOk result (λ s. HasALineForEach (λ n. P.fits n && (F.fits n && S.fits n)) bytes.now (string_bytes s)) }
     ensures fronts { IfOk result (λ s. KeepsFronts (told_by (λ n. P.fits n && (F.fits n && S.fits n))) bytes.now (string_bytes s)) }
     ensures whatever_makes { FitsPlans (λ n. P.fits n && (F.fits n && S.fits n)) → IfOk result (λ s. string_bytes s ≡ told bytes.now) }
 {

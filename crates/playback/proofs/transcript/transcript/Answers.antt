@@ -1,7 +1,8 @@
 -- The text is what the definition tells, of which the law holds.
 use Rattle.std.proofs.Common.{◌≡◌, ℕ, Bool, ◌&&◌, sym, subst, rules, string_bytes}
 use Rattle.playback.specs.Transcript.{told_by}
-use Rattle.playback.specs.Laws.{KeepsFronts}
+use Rattle.playback.specs.Laws.{KeepsFronts, HasALineForEach}
+use Rattle.playback.proofs.Counting.{has-a-line-for-each}
 use Rattle.playback.proofs.Fronts.{keeps-fronts}
 use Rattle.playback.proofs.transcript.transcript.Goals as goal
 
@@ -10,3 +11,9 @@ returns-clause-fronts g c =
     let fits : ℕ → Bool = λ n. g.P.Blank.fits n && (g.F.Blank.fits n && g.S.Blank.fits n) in
     let text : string_bytes c.match-play.out ≡ told_by (λ n. g.P.Blank.fits n && (g.F.Blank.fits n && g.S.Blank.fits n)) c.args.bytes.now = search rules in
     subst (KeepsFronts (told_by fits) c.args.bytes.now) (sym text) (keeps-fronts fits c.args.bytes.now)
+
+pub returns-clause-lines : goal.returns-clause-lines
+returns-clause-lines g c =
+    let fits : ℕ → Bool = λ n. g.P.Blank.fits n && (g.F.Blank.fits n && g.S.Blank.fits n) in
+    let text : string_bytes c.match-play.out ≡ told_by (λ n. g.P.Blank.fits n && (g.F.Blank.fits n && g.S.Blank.fits n)) c.args.bytes.now = search rules in
+    subst (HasALineForEach fits c.args.bytes.now) (sym text) (has-a-line-for-each fits c.args.bytes.now)
