@@ -124,7 +124,7 @@ third ws bs ns h =
     ∙ get_or-drop 1 (drop 1 bs) 0 0
     ∙ get_or-drop 1 bs 1 0
 
-same-regions : (kind : EntryKind) (r : ℕ) (bs ns : List ℕ) → numbers_in (widths kind r) bs ≡ Some ns → regions kind ns ≡ regions kind bs
+pub same-regions : (kind : EntryKind) (r : ℕ) (bs ns : List ℕ) → numbers_in (widths kind r) bs ≡ Some ns → regions kind ns ≡ regions kind bs
 same-regions SetUp r bs ns h = third (One ∷ Eight ∷ Eight ∷ replicate (3 * r) One) bs ns h
 same-regions Open r bs ns h = refl
 same-regions Read r bs ns h = refl

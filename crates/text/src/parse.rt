@@ -1,10 +1,11 @@
 // A text is read as a step file.
-ghost use Rattle.std.specs.Prelude.{◌≡◌, map, ◌==◌, Ok, Err, IfOk, MatchResult, vec_items};
+ghost use Rattle.std.specs.Prelude.{◌≡◌, map, ◌==◌, Ok, Err, IfOk, IsOk, MatchResult, vec_items};
 ghost use Rattle.std.specs.List.{slice_split};
 ghost use Rattle.std.specs.Option.{option_map};
 ghost use Rattle.steps.specs.Kinds.{kind_named};
 ghost use Rattle.text.specs.Faults.{Unless, Answers};
 ghost use Rattle.text.specs.Parsing.{step_read, line_read, with_line, lines_read, text_read};
+ghost use Rattle.text.specs.Printing.{text_of};
 
 use crate::fault::{LineFault, TextFault};
 use crate::fields::entry_of;
@@ -70,7 +71,8 @@ fn read_lines(heap: Global, lines: &[&str]) -> Result<Vec<u8>, TextFault>
 
 // The step file that a text stands for.
 pub fn from_text(heap: Global, text: &str) -> Result<Vec<u8>, TextFault>
-    ensures { MatchResult result (λ v. text_read text.now ≡ Ok v.items) (λ e. Unless e.fault (text_read text.now ≡ Err e)) }
+    ensures file { MatchResult result (λ v. text_read text.now ≡ Ok v.items) (λ e. Unless e.fault (text_read text.now ≡ Err e)) }
+    ensures has_text { IfOk result (λ v. IsOk (text_of v.items)) }
 {
     let lines = lines(heap, text)?;
     read_lines(heap, &lines)

@@ -1,6 +1,7 @@
 // A step file is written as a text.
 ghost use Rattle.std.specs.Prelude.{◌≡◌, ◌++◌, Ok, IfOk, OnOk, MatchResult};
 ghost use Rattle.std.specs.String.{string_bytes};
+ghost use Rattle.text.specs.Laws.{FaultsOfSteps};
 ghost use Rattle.text.specs.Parsing.{text_read};
 ghost use Rattle.text.specs.Printing.{line, entry_line, text_of};
 ghost use Rattle.text.specs.Faults.{Faulty};
@@ -45,6 +46,7 @@ fn add_entry(heap: Global, out: &mut String, place: usize, content: &[u8]) -> Re
 // The text of a step file.
 pub fn to_text(heap: Global, bytes: &[u8]) -> Result<String, FileFault>
     ensures text { MatchResult result (λ t. text_of bytes.now ≡ Ok (string_bytes t)) (Faulty (text_of bytes.now)) }
+    ensures faults_of_steps { FaultsOfSteps }
     ensures reads_back { IfOk result (λ t. text_read (string_bytes t) ≡ Ok bytes.now) }
 {
     let mut text = String::new(heap);
