@@ -70,6 +70,7 @@ limit-fits Eight n h = h
 
 -- ---- the fields of an entry
 
+-- bytes stay bytes
 pub below-drop : (n : ℕ) (bs : List ℕ) → AllBelowBase 256 bs → AllBelowBase 256 (drop n bs)
 below-drop zero bs u = u
 below-drop (suc n) [] u = tt
