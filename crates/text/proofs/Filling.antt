@@ -18,5 +18,6 @@ none_left ws ns n h = by (cases_lt (length ws) (length ns))
     by (inl l) = ap (λ us. bytes_of us (drop n ns)) (drop_all n ws (omega (arith, h)))
     by (inr l) = ap (bytes_of (drop n ws)) (drop_all n ns (omega (arith, h))) ∙ no-numbers (drop n ws)
 
+-- bytes with nothing behind them
 pub behind-nothing : (xs : List ℕ) → behind {E = LineFault} xs (Ok []) ≡ Ok xs
 behind-nothing xs = ap (λ ys. Ok ys) (append-nil xs)

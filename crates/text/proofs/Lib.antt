@@ -1,3 +1,5 @@
+pub mod Accepting
+pub mod Agreeing
 pub mod Filling
 pub mod Listing
 pub mod Reading

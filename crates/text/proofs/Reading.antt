@@ -16,6 +16,7 @@ use Rattle.text.specs.Fields.{entry_of}
 use Rattle.text.specs.Parsing.{step_read}
 use Rattle.text.specs.Words.{and_then, numbers_read, is_numeral, number_read}
 
+-- what follows from a fact that is not owed is not owed, either
 pub unless-weaker : (e : LineFault) (P Q : Type 0) → (P → Q) → Unless e P → Unless e Q
 unless-weaker UnknownStep P Q f h = f h
 unless-weaker NotANumber P Q f h = f h
@@ -24,6 +25,7 @@ unless-weaker (WrongCount wanted found) P Q f h = f h
 unless-weaker FileTooLong P Q f h = f h
 unless-weaker (NoMemory e) P Q f h = tt
 
+-- digits and their number are those that `parse` reads
 pub own : IsNumeralModel (λ ds. list_all is_ascii_digit ds ≡ true) (digits_value 10)
 own = numerals_by_value _ (search rules)
 

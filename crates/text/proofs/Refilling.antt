@@ -70,6 +70,7 @@ limit-fits Eight n h = h
 
 -- ---- the fields of an entry
 
+-- bytes stay bytes
 pub below-drop : (n : ℕ) (bs : List ℕ) → AllBelowBase 256 bs → AllBelowBase 256 (drop n bs)
 below-drop zero bs u = u
 below-drop (suc n) [] u = tt
@@ -124,7 +125,7 @@ third ws bs ns h =
     ∙ get_or-drop 1 (drop 1 bs) 0 0
     ∙ get_or-drop 1 bs 1 0
 
-same-regions : (kind : EntryKind) (r : ℕ) (bs ns : List ℕ) → numbers_in (widths kind r) bs ≡ Some ns → regions kind ns ≡ regions kind bs
+pub same-regions : (kind : EntryKind) (r : ℕ) (bs ns : List ℕ) → numbers_in (widths kind r) bs ≡ Some ns → regions kind ns ≡ regions kind bs
 same-regions SetUp r bs ns h = third (One ∷ Eight ∷ Eight ∷ replicate (3 * r) One) bs ns h
 same-regions Open r bs ns h = refl
 same-regions Read r bs ns h = refl

@@ -43,6 +43,10 @@ Unless (NoMemory e) P = Unit {0}
 abbrev pub Answers : {X Y : Type 0} → (X → Y) → Result Y LineFault → Result X LineFault → Type 0
 Answers view defined r = MatchResult r (λ x. defined ≡ Ok (view x)) (λ e. Unless e (defined ≡ Err e))
 
+-- the same of a text, whose faults have the numbers of their lines
+abbrev pub AnswersText : {X : Type 0} → (X → List ℕ) → Result (List ℕ) TextFault → Result X TextFault → Type 0
+AnswersText view defined r = MatchResult r (λ x. defined ≡ Ok (view x)) (λ e. Unless e.fault (defined ≡ Err e))
+
 -- an entry that is too long for its length bytes makes the file too long
 abbrev pub write_fault : WriteFault → LineFault
 write_fault EntryTooLong = FileTooLong

@@ -3,3 +3,4 @@ pub mod Fields
 pub mod Words
 pub mod Parsing
 pub mod Printing
+pub mod Laws

@@ -20,7 +20,11 @@ pub(crate) enum Width {
 impl Width {
     // The number at the front of the bytes, and the bytes behind it; none where there are too few.
     fn split(self, bytes: &[u8]) -> Option<(u64, &[u8])>
-        ensures { MatchOption result (length bytes.now < size self) (λ r. (size self ≤ length bytes.now) × (r.0 ≡ number_at self bytes.now) × (r.1.now ≡ drop (size self) bytes.now)) }
+        ensures { MatchOption result
+            (length bytes.now < size self)
+            (λ r. (size self ≤ length bytes.now)
+            × (r.0 ≡ number_at self bytes.now)
+            × (r.1.now ≡ drop (size self) bytes.now)) }
     {
         match self {
             Width::One => {
@@ -40,7 +44,9 @@ impl Width {
 
     // Adds the bytes of a number that fits.
     fn push(self, out: &mut Vec<u8>, number: u64) -> Result<(), LineFault>
-        ensures { MatchResult result (λ _. (number < limit self) × (out.new.items ≡ out.old.items ++ number_bytes self number)) (λ e. Unless e ((e ≡ TooBig) × (limit self ≤ number))) }
+        ensures { MatchResult result
+            (λ _. (number < limit self) × (out.new.items ≡ out.old.items ++ number_bytes self number))
+            (λ e. Unless e ((e ≡ TooBig) × (limit self ≤ number))) }
     {
         match self {
             Width::One => {
@@ -112,7 +118,9 @@ fn split_all(heap: Global, widths: &[Width], bytes: &[u8]) -> Result<Option<Vec<
 
 // Adds the bytes of the numbers, each in its field.
 fn push_all(out: &mut Vec<u8>, widths: &[Width], numbers: &[u64]) -> Result<(), LineFault>
-    ensures { MatchResult result (λ _. behind out.old.items (bytes_of widths.now numbers.now) ≡ Ok out.new.items) (λ e. Unless e (bytes_of widths.now numbers.now ≡ Err e)) }
+    ensures { MatchResult result
+        (λ _. behind out.old.items (bytes_of widths.now numbers.now) ≡ Ok out.new.items)
+        (λ e. Unless e (bytes_of widths.now numbers.now ≡ Err e)) }
 {
     for (width, number) in widths.iter().zip(numbers) {
         width.push(out, *number)?;
@@ -136,7 +144,8 @@ pub(crate) fn numbers_in(
     kind: EntryKind,
     fields: &[u8],
 ) -> Result<Option<Vec<u64>>, AllocError>
-    ensures { IfOk result (λ o. option_map vec_items o ≡ numbers_in (widths kind (regions kind fields.now)) fields.now) }
+    ensures { IfOk result
+        (λ o. option_map vec_items o ≡ numbers_in (widths kind (regions kind fields.now)) fields.now) }
 {
     let widths = widths(heap, kind, regions_in(kind, fields))?;
     split_all(heap, &widths, fields)

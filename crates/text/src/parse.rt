@@ -1,10 +1,11 @@
 // A text is read as a step file.
-ghost use Rattle.std.specs.Prelude.{◌≡◌, map, ◌==◌, Ok, Err, IfOk, MatchResult, vec_items};
+ghost use Rattle.std.specs.Prelude.{◌≡◌, map, ◌==◌, IfOk, IsOk, vec_items};
 ghost use Rattle.std.specs.List.{slice_split};
 ghost use Rattle.std.specs.Option.{option_map};
 ghost use Rattle.steps.specs.Kinds.{kind_named};
-ghost use Rattle.text.specs.Faults.{Unless, Answers};
+ghost use Rattle.text.specs.Faults.{Answers, AnswersText};
 ghost use Rattle.text.specs.Parsing.{step_read, line_read, with_line, lines_read, text_read};
+ghost use Rattle.text.specs.Printing.{text_of};
 
 use crate::fault::{LineFault, TextFault};
 use crate::fields::entry_of;
@@ -37,7 +38,7 @@ fn entry(heap: Global, line: &str) -> Result<Option<Vec<u8>>, LineFault>
 
 // Adds the entry of a line to a file.
 fn add_line(heap: Global, file: &mut Vec<u8>, line: &str) -> Result<(), LineFault>
-    ensures { MatchResult result (λ _. with_line file.old.items line.now ≡ Ok file.new.items) (λ e. Unless e (with_line file.old.items line.now ≡ Err e)) }
+    ensures { Answers (λ _. file.new.items) (with_line file.old.items line.now) result }
 {
     let Some(entry) = entry(heap, line)? else {
         return Ok(());
@@ -49,6 +50,7 @@ fn add_line(heap: Global, file: &mut Vec<u8>, line: &str) -> Result<(), LineFaul
     Ok(())
 }
 
+// The lines of a text, without their ends.
 fn lines(heap: Global, text: &str) -> Result<Vec<&str>, AllocError>
     ensures { IfOk result (λ v. map (λ l. l.now) v.items ≡ slice_split (λ b. b == 10) text.now) }
 {
@@ -57,7 +59,7 @@ fn lines(heap: Global, text: &str) -> Result<Vec<&str>, AllocError>
 
 // The step file of lines.
 fn read_lines(heap: Global, lines: &[&str]) -> Result<Vec<u8>, TextFault>
-    ensures { MatchResult result (λ v. lines_read (map (λ l. l.now) lines.now) ≡ Ok v.items) (λ e. Unless e.fault (lines_read (map (λ l. l.now) lines.now) ≡ Err e)) }
+    ensures { AnswersText vec_items (lines_read (map (λ l. l.now) lines.now)) result }
 {
     let mut file = [VERSION].to_vec(heap)?;
     for (i, line) in lines.iter().enumerate() {
@@ -70,7 +72,8 @@ fn read_lines(heap: Global, lines: &[&str]) -> Result<Vec<u8>, TextFault>
 
 // The step file that a text stands for.
 pub fn from_text(heap: Global, text: &str) -> Result<Vec<u8>, TextFault>
-    ensures { MatchResult result (λ v. text_read text.now ≡ Ok v.items) (λ e. Unless e.fault (text_read text.now ≡ Err e)) }
+    ensures file { AnswersText vec_items (text_read text.now) result }
+    ensures has_text { IfOk result (λ v. IsOk (text_of v.items)) }
 {
     let lines = lines(heap, text)?;
     read_lines(heap, &lines)

@@ -1,6 +1,7 @@
 // A step file is written as a text.
 ghost use Rattle.std.specs.Prelude.{◌≡◌, ◌++◌, Ok, IfOk, OnOk, MatchResult};
 ghost use Rattle.std.specs.String.{string_bytes};
+ghost use Rattle.text.specs.Laws.{FaultsOfSteps};
 ghost use Rattle.text.specs.Parsing.{text_read};
 ghost use Rattle.text.specs.Printing.{line, entry_line, text_of};
 ghost use Rattle.text.specs.Faults.{Faulty};
@@ -27,7 +28,9 @@ fn add_step(out: &mut String, kind: EntryKind, numbers: &[u64]) -> Result<(), Al
 
 // Adds the line of an entry.
 fn add_entry(heap: Global, out: &mut String, place: usize, content: &[u8]) -> Result<(), FileFault>
-    ensures { MatchResult result (λ _. behind (string_bytes out.old) (entry_line place content.now) ≡ Ok (string_bytes out.new)) (λ e. Faulty (entry_line place content.now) e) }
+    ensures { MatchResult result
+        (λ _. behind (string_bytes out.old) (entry_line place content.now) ≡ Ok (string_bytes out.new))
+        (Faulty (entry_line place content.now)) }
 {
     let [kind, fields @ ..] = content else {
         return Err(EntryFault::WrongLength { place }.into());
@@ -44,7 +47,10 @@ fn add_entry(heap: Global, out: &mut String, place: usize, content: &[u8]) -> Re
 
 // The text of a step file.
 pub fn to_text(heap: Global, bytes: &[u8]) -> Result<String, FileFault>
-    ensures text { MatchResult result (λ t. text_of bytes.now ≡ Ok (string_bytes t)) (Faulty (text_of bytes.now)) }
+    ensures text { MatchResult result
+        (λ t. text_of bytes.now ≡ Ok (string_bytes t))
+        (Faulty (text_of bytes.now)) }
+    ensures faults_of_steps { FaultsOfSteps }
     ensures reads_back { IfOk result (λ t. text_read (string_bytes t) ≡ Ok bytes.now) }
 {
     let mut text = String::new(heap);

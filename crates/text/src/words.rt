@@ -23,12 +23,14 @@ pub(crate) fn words(heap: Global, line: &str) -> Result<Vec<&str>, AllocError>
     uncommented(line).split_ascii_whitespace().collect(heap)
 }
 
+// Digits alone: `parse` would also take a sign.
 fn is_numeral(word: &str) -> bool
     ensures { result ≡ is_numeral word.now }
 {
     !word.is_empty() && word.bytes().all(|b| b.is_ascii_digit())
 }
 
+// The number that a word is.
 fn number(word: &str) -> Result<u64, LineFault>
     ensures { result ≡ number_read word.now }
 {
@@ -38,6 +40,7 @@ fn number(word: &str) -> Result<u64, LineFault>
     word.parse().or(Err(LineFault::TooBig))
 }
 
+// The numbers that words are, up to the first that is none.
 pub(crate) fn numbers(heap: Global, words: &[&str]) -> Result<Vec<u64>, LineFault>
     ensures { Answers vec_items (numbers_read (map (λ w. w.now) words.now)) result }
 {

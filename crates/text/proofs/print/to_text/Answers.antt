@@ -9,6 +9,7 @@ use Rattle.steps.specs.Reading.{position, said}
 use Rattle.text.specs.Fields.{behind}
 use Rattle.text.specs.Printing.{entry_line, and_lines, and_others, lines_from, text_of}
 use Rattle.text.proofs.Unrolling.{unrolled, line-added, line-faulty, behind-none}
+use Rattle.text.proofs.Agreeing.{faults-of-steps}
 use Rattle.text.proofs.RoundTrip.{reads-back}
 use Rattle.text.proofs.print.to_text.Goals as goal
 
@@ -57,3 +58,15 @@ pub returns-clause-reads_back : goal.returns-clause-reads_back
 returns-clause-reads_back c =
     let bytes = c.args.bytes.now in
     reads-back bytes (string_bytes c.loop-text.text) (All-from_get_or (λ d. d < 256) bytes 0 (λ i _. (c.type_inv.bytes i).fits)) (returns-clause-text c)
+
+pub returns-clause-faults_of_steps : goal.returns-clause-faults_of_steps
+returns-clause-faults_of_steps c = faults-of-steps
+
+pub returns-in_err-reader-clause-faults_of_steps : goal.returns-in_err-reader-clause-faults_of_steps
+returns-in_err-reader-clause-faults_of_steps c = faults-of-steps
+
+pub returns-in_err-entry-clause-faults_of_steps : goal.returns-in_err-entry-clause-faults_of_steps
+returns-in_err-entry-clause-faults_of_steps c = faults-of-steps
+
+pub returns-in_err-add_entry-clause-faults_of_steps : goal.returns-in_err-add_entry-clause-faults_of_steps
+returns-in_err-add_entry-clause-faults_of_steps c = faults-of-steps
