@@ -90,6 +90,12 @@ fn faulty_lines(rt: HostRuntime) -> Result<(), Fail> {
     ]) {
         assert_eq!(rt; text_fault(heap, text), Some(TextFault { line: n, fault }));
     }
+    Ok(())
+}
+
+#[test]
+fn file_too_long(rt: HostRuntime) -> Result<(), Fail> {
+    let heap = rt.alloc();
     let mut long = String::new(heap);
     for _ in 0..16384 {
         long.push_str("open 0\n")?;
