@@ -21,7 +21,7 @@ use Rattle.tickets.specs.declared.draft.Draft.{Draft}
 use Rattle.tickets.specs.declared.filing.Filing.{Filing}
 use Rattle.tickets.specs.declared.filing.Progress.{Progress}
 use Rattle.tickets.specs.Answers.{abandoned, given_up, latest, progress, committed, carried}
-use Rattle.tickets.specs.Standing.{phase_at, reported_in, IsOpen, StaysOpen, Stands, IsOnce, Follows, DraftEnds, DraftGoes, FilingGoes, is_others, KeptByOthers}
+use Rattle.tickets.specs.Standing.{phase_at, reported_in, IsOpen, StaysOpen, Stands, IsOnce, Follows, DraftEnds, Goes, is_others, KeptByOthers}
 use Rattle.tickets.specs.Promises.{Commits, Carries}
 use Rattle.tickets.proofs.Moved.{GoesOrEnds, busy, goes, once, left}
 use Rattle.tickets.proofs.Stepping.{of-call, retold}
@@ -90,7 +90,7 @@ module _ (p : Plan) (was after : World) where
   commit-leaves c a h s = of-own (Ok a) (Commit c) (λ t phase. IfOk t (λ b. GoesOrEnds phase (latest Going b.outcome))) h s (λ n. tt) (λ b move. left p _ move)
 
   commit-goes : (d : Draft) (r : Result Answer Refusal) → Does p was after r (Commit d.coordinator) → Sound p was → IsOpen (view p was) d
-      → DraftGoes (view p after) d.coordinator (committed d (is_idle (phase_at (view p after) d.coordinator)) r)
+      → Goes IsOpen (view p after) d.coordinator (committed d (is_idle (phase_at (view p after) d.coordinator)) r)
   commit-goes d (Ok a) h s o = follows (view p after) d.coordinator Going a (commit-leaves d.coordinator a h s)
   commit-goes d (Err n) h s o = subst (λ (w : World). IsOpen (view p w) d) (sym h.refused_unchanged) o
 
@@ -102,27 +102,27 @@ module _ (p : Plan) (was after : World) where
         answer = r;
         does = h;
         answers = e;
-        goes = λ s o. subst (DraftGoes (view p after) d.coordinator) (sym e) (commit-goes d r h s o);
+        goes = λ s o. subst (Goes IsOpen (view p after) d.coordinator) (sym e) (commit-goes d r h s o);
       }
 
   module _ (f : Filing) (call : Call) (mine : coordinator_of call ≡ f.coordinator) where
-    abbrev Goes : Result Answer Refusal → Phase → Type 0
-    Goes (Ok a) phase = GoesOrEnds phase (latest f.reported a.outcome)
-    Goes (Err n) phase = reported_in phase ≡ Some f.reported
+    abbrev Leaves : Result Answer Refusal → Phase → Type 0
+    Leaves (Ok a) phase = GoesOrEnds phase (latest f.reported a.outcome)
+    Leaves (Err n) phase = reported_in phase ≡ Some f.reported
 
-    goes-on : (r : Result Answer Refusal) → Does p was after r call → Sound p was → Stands (view p was) f → Goes r (phase_at (view p after) f.coordinator)
+    goes-on : (r : Result Answer Refusal) → Does p was after r call → Sound p was → Stands (view p was) f → Leaves r (phase_at (view p after) f.coordinator)
     goes-on r h s o =
         let here : reported_in (phase_at (view p was) (coordinator_of call)) ≡ Some f.reported =
         subst (λ (c : ℕ). reported_in (phase_at (view p was) c) ≡ Some f.reported) (sym mine) o in
-        subst (λ (c : ℕ). Goes r (phase_at (view p after) c)) mine
-        (of-own r call Goes h s (λ n. here) (λ b move. goes p _ f.reported here move))
+        subst (λ (c : ℕ). Leaves r (phase_at (view p after) c)) mine
+        (of-own r call Leaves h s (λ n. here) (λ b move. goes p _ f.reported here move))
 
     reports_once : (r : Result Answer Refusal) → Does p was after r call → Sound p was → Stands (view p was) f → IfOk r (λ a. IsOnce f.reported a.outcome)
     reports_once r h s o =
         of-own r call (λ t phase. IfOk t (λ a. IsOnce f.reported a.outcome)) h s (λ n. tt)
         (λ b move. once p _ f.reported (subst (λ (c : ℕ). reported_in (phase_at (view p was) c) ≡ Some f.reported) (sym mine) o) move)
 
-    left-to : (s : State) (r : Result Answer Refusal) → Goes r (phase_at s f.coordinator) → FilingGoes s f.coordinator (carried f (is_idle (phase_at s f.coordinator)) r)
+    left-to : (s : State) (r : Result Answer Refusal) → Leaves r (phase_at s f.coordinator) → Goes Stands s f.coordinator (carried f (is_idle (phase_at s f.coordinator)) r)
     left-to s (Ok a) h = follows s f.coordinator f.reported a h
     left-to s (Err n) h = h
 
@@ -133,7 +133,7 @@ module _ (p : Plan) (was after : World) where
           answer = r;
           does = h;
           answers = e;
-          goes = λ s o. subst (FilingGoes (view p after) f.coordinator) (sym e) (left-to (view p after) r (goes-on r h s o));
+          goes = λ s o. subst (Goes Stands (view p after) f.coordinator) (sym e) (left-to (view p after) r (goes-on r h s o));
           once = reports_once r h;
         }
 

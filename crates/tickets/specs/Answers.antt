@@ -11,17 +11,17 @@ use Rattle.tickets.specs.declared.filing.Filing.{Filing}
 use Rattle.tickets.specs.declared.filing.Progress.{Progress}
 use Rattle.tickets.specs.declared.filing.Progress.TheVariants.{GoesOn, Ended}
 
--- an accepted open answers two zeros and no outcome; of all that the ticket says the draft
+-- an accepted open, which gives a draft, answers two zeros and reports nothing
 abbrev pub opened : Result Draft Refusal → Result Answer Refusal
 opened (Ok d) = Ok (answered 0 0 Going)
 opened (Err n) = Err n
 
--- an accepted abandon answers two zeros and its outcome; a refused one hands the draft back
+-- an accepted abandon, which gives an outcome, answers two zeros beside it
 abbrev pub abandoned : Result Outcome (Rejected Refusal Draft) → Result Answer Refusal
 abandoned (Ok o) = Ok (answered 0 0 o)
 abandoned (Err h) = Err h.error
 
--- and what is left of the ticket
+-- what an abandon gives: the outcome alone, or the draft that was refused
 abbrev pub given_up : Draft → Result Answer Refusal → Result Outcome (Rejected Refusal Draft)
 given_up d (Ok a) = Ok a.outcome
 given_up d (Err n) = Err (record { error = n; given = d })
@@ -37,12 +37,14 @@ abbrev pub progress : ℕ → Outcome → Bool → Answer → Progress
 progress c before true a = Ended (latest before a.outcome)
 progress c before false a = GoesOn (record { coordinator = c; reported = latest before a.outcome }) a
 
--- a refused commit hands the draft back; an accepted one has nothing reported before
-abbrev pub committed : Draft → Bool → Result Answer Refusal → Result Progress (Rejected Refusal Draft)
-committed d idle (Ok a) = Ok (progress d.coordinator Going idle a)
-committed d idle (Err n) = Err (record { error = n; given = d })
+-- a refused call hands its ticket back
+abbrev pub handed : {T : Type 0} → T → ℕ → Outcome → Bool → Result Answer Refusal → Result Progress (Rejected Refusal T)
+handed t c before idle (Ok a) = Ok (progress c before idle a)
+handed t c before idle (Err n) = Err (record { error = n; given = t })
 
--- a refused call hands the filing back
+-- of a commit: nothing is reported before
+abbrev pub committed : Draft → Bool → Result Answer Refusal → Result Progress (Rejected Refusal Draft)
+committed d = handed d d.coordinator Going
+
 abbrev pub carried : Filing → Bool → Result Answer Refusal → Result Progress (Rejected Refusal Filing)
-carried f idle (Ok a) = Ok (progress f.coordinator f.reported idle a)
-carried f idle (Err n) = Err (record { error = n; given = f })
+carried f = handed f f.coordinator f.reported

@@ -57,14 +57,12 @@ abbrev pub Follows : State → ℕ → Progress → Type 0
 Follows s c (GoesOn f a) = (f.coordinator ≡ c) × Stands s f
 Follows s c (Ended o) = IsOver (phase_at s c) o
 
-abbrev pub DraftGoes : State → ℕ → Result Progress (Rejected Refusal Draft) → Type 0
-DraftGoes s c (Ok r) = Follows s c r
-DraftGoes s c (Err h) = IsOpen s h.given
+-- and any call with a ticket: a refused one hands it back, and it stands
+abbrev pub Goes : {T : Type 0} → (State → T → Type 0) → State → ℕ → Result Progress (Rejected Refusal T) → Type 0
+Goes stands s c (Ok r) = Follows s c r
+Goes stands s c (Err h) = stands s h.given
 
-abbrev pub FilingGoes : State → ℕ → Result Progress (Rejected Refusal Filing) → Type 0
-FilingGoes s c (Ok r) = Follows s c r
-FilingGoes s c (Err h) = Stands s h.given
-
+-- an abandon
 abbrev pub DraftEnds : State → ℕ → Result Outcome (Rejected Refusal Draft) → Type 0
 DraftEnds s c (Ok o) = (phase_at s c ≡ Idle) × (o ≡ Aborted)
 DraftEnds s c (Err h) = IsOpen s h.given
