@@ -5,7 +5,7 @@ ghost use Rattle.service.specs.Owned.{owned};
 ghost use Rattle.steps.specs.declared.fault.RunFault.TheVariants.{Entry};
 ghost use Rattle.steps.specs.Reading.{steps_left};
 ghost use Rattle.playback.specs.declared.transcript.Stop.TheVariants.{Fault, NoMemory};
-ghost use Rattle.playback.specs.Playing.{Tells, Plays, Numbered, Opens, Starts, Sets, stop_at};
+ghost use Rattle.playback.specs.Playing.{Tells, Plays, Ends, Numbered, Opens, Starts, Sets, stop_at};
 ghost use Rattle.playback.specs.Laws.{HasALineForEach, KeepsFronts};
 ghost use Rattle.playback.specs.Transcript.{answer_line, calls_told, set_up_told, made, told_by, told, FitsPlans};
 
@@ -42,6 +42,18 @@ impl From<AllocError> for Stop {
 
     fn from(e: AllocError) -> Stop {
         Stop::NoMemory(e)
+    }
+}
+
+impl Stop {
+    // Adds the line of the fault. Want of memory has none, and is handed on.
+    fn tell(self, out: &mut String) -> Result<(), AllocError>
+        ensures { Ends self (string_bytes out.old) (string_bytes out.new) result }
+    {
+        match self {
+            Stop::Fault(fault) => writeln!(out, "{fault}"),
+            Stop::NoMemory(e) => Err(e),
+        }
     }
 }
 
@@ -175,10 +187,8 @@ pub fn transcript<P: Blank, F: Blank, S: Blank>(
     ensures whatever_makes { FitsPlans (λ n. P.fits n && (F.fits n && S.fits n)) → IfOk result (λ s. string_bytes s ≡ told bytes.now) }
 {
     let mut out = String::new(heap);
-    match play::<P, F, S>(heap, &mut out, bytes) {
-        Ok(()) => {}
-        Err(Stop::Fault(fault)) => writeln!(out, "{fault}")?,
-        Err(Stop::NoMemory(e)) => return Err(e),
+    if let Err(stop) = play::<P, F, S>(heap, &mut out, bytes) {
+        stop.tell(&mut out)?;
     }
     Ok(out)
 }
