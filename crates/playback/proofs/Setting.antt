@@ -17,7 +17,7 @@ use Rattle.service.specs.declared.make.Unmade.{Unmade}
 use Rattle.service.specs.declared.make.Unmade.TheVariants.{Refused, NoMemory}
 use Rattle.service.specs.Owned.{owned}
 use Rattle.service.specs.Making.{Makes, Caused, has_fitting_memories}
-use Rattle.playback.specs.Transcript.{made}
+use Rattle.playback.specs.Transcript.{made, each_fits}
 use Rattle.playback.specs.Playing.{Sets}
 
 accepted-fine : (f : Bool) (k : ℕ) → (unless BadPlan f >> (unless BadTables true >> Ok k)) ≡ Ok k → f ≡ true
@@ -66,7 +66,7 @@ module _ {P F S : Type 0} (words_p : P → Words) (words_f : F → Words) (words
 
   pub sets : (f g h : ℕ → Bool) (r : Result (Directory P F S) (Rejected Unmade (P × F × S))) (s : Result (Directory P F S) Unmade)
       → New (f (size p)) (g (size p)) (h (size p)) → Makes words_p words_f words_s p xs ys zs r
-      → MatchResult r (λ x. s ≡ Ok x) (λ e. IsErrAnd s (λ u. u ≡ e.error)) → Sets words_p words_f words_s (λ n. f n && (g n && h n)) p s
+      → MatchResult r (λ x. s ≡ Ok x) (λ e. IsErrAnd s (λ u. u ≡ e.error)) → Sets words_p words_f words_s (each_fits f g h) p s
   sets f g h r s new =
-      made_of (λ n. f n && (g n && h n)) (all-three _ _ _ new.primaries.0 new.firsts.0 new.seconds.0)
+      made_of (each_fits f g h) (all-three _ _ _ new.primaries.0 new.firsts.0 new.seconds.0)
       (all-three _ _ _ (sized p _ new.primaries.1) (sized p _ new.firsts.1) (sized p _ new.seconds.1)) r s

@@ -1,5 +1,6 @@
 -- What the parts of playing a step file promise.
-use Rattle.std.specs.Prelude.{◌≡◌, ℕ, ◌≤◌, Bool, true, List, ◌++◌, length, Ok, Err, Result}
+use Rattle.std.specs.Prelude.{◌≡◌, ℕ, ◌≤◌, Bool, true, List, ◌++◌, length, Ok, Err, OnOk, Result}
+use Rattle.std.specs.declared.alloc.AllocError.{AllocError}
 use Rattle.std.specs.Iterator.Adapters.{enumerate_source, enumerate_count}
 use Rattle.std.specs.declared.iter.Enumerate.{Enumerate}
 use Rattle.protocol.specs.declared.plan.Plan.{Plan}
@@ -34,6 +35,11 @@ abbrev pub Plays : List ℕ → List ℕ → List ℕ → Result (Unit {0}) Stop
 Plays was after told (Ok u) = after ≡ was ++ told
 Plays was after told (Err (Fault f)) = after ++ fault_line f ≡ was ++ told
 Plays was after told (Err (OutOfMemory e)) = Unit {0}
+
+-- the fault that stopped the play is told; for want of memory nothing is
+abbrev pub Ends : Stop → List ℕ → List ℕ → Result (Unit {0}) AllocError → Type 0
+Ends (Fault f) was after r = OnOk r (after ≡ was ++ fault_line f)
+Ends (OutOfMemory e) was after r = r ≡ Err e
 
 -- what stops the play where a set-up at a place made no directory
 abbrev pub stop_at : ℕ → Unmade → Stop

@@ -1,5 +1,5 @@
 -- The lines that a step file is answered with.
-use Rattle.std.specs.Prelude.{◌≡◌, ℕ, ◌*◌, ◌≤◌, suc, Bool, true, cond, List, [], ◌∷◌, ◌++◌, length, codes, decimal, Ok, Err, Result}
+use Rattle.std.specs.Prelude.{◌≡◌, ℕ, ◌*◌, ◌≤◌, suc, Bool, true, cond, ◌&&◌, List, [], ◌∷◌, ◌++◌, length, codes, decimal, Ok, Err, Result}
 use Rattle.std.specs.Result.{result_map_both}
 use Rattle.protocol.specs.declared.plan.Plan.{Plan}
 use Rattle.protocol.specs.declared.call.Call.{Call}
@@ -101,6 +101,10 @@ module _ (fits : ℕ → Bool) where
 abbrev pub told : List ℕ → List ℕ
 told = told_by (λ n. true)
 
--- there is: a plan has 1 to 8 regions of 64 words
+-- there is a memory of that size of each of three makes
+abbrev pub each_fits : (ℕ → Bool) → (ℕ → Bool) → (ℕ → Bool) → ℕ → Bool
+each_fits f g h n = f n && (g n && h n)
+
+-- there is one of every plan's size: a plan has 1 to 8 regions of 64 words
 abbrev pub FitsPlans : (ℕ → Bool) → Type 0
 FitsPlans fits = (r : ℕ) → 1 ≤ r → r ≤ 8 → fits (64 * r) ≡ true

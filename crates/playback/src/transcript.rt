@@ -1,13 +1,13 @@
 // The lines that a step file is answered with.
-ghost use Rattle.std.specs.Prelude.{◌≡◌, ◌++◌, ◌&&◌, OnOk, IfOk, string_bytes};
+ghost use Rattle.std.specs.Prelude.{◌≡◌, ◌++◌, OnOk, IfOk, string_bytes};
 ghost use Rattle.std.specs.Iterator.Adapters.{enumerate_source};
 ghost use Rattle.service.specs.Owned.{owned};
 ghost use Rattle.steps.specs.declared.fault.RunFault.TheVariants.{Entry};
 ghost use Rattle.steps.specs.Reading.{steps_left};
 ghost use Rattle.playback.specs.declared.transcript.Stop.TheVariants.{Fault, NoMemory};
-ghost use Rattle.playback.specs.Playing.{Tells, Plays, Numbered, Opens, Starts, Sets, stop_at};
+ghost use Rattle.playback.specs.Playing.{Tells, Plays, Ends, Numbered, Opens, Starts, Sets, stop_at};
 ghost use Rattle.playback.specs.Laws.{HasALineForEach, KeepsFronts};
-ghost use Rattle.playback.specs.Transcript.{answer_line, calls_told, set_up_told, made, told_by, told, FitsPlans};
+ghost use Rattle.playback.specs.Transcript.{answer_line, calls_told, set_up_told, made, told_by, told, each_fits, FitsPlans};
 
 use crate::row::{Row, name};
 use memory::blank::Blank;
@@ -45,6 +45,18 @@ impl From<AllocError> for Stop {
     }
 }
 
+impl Stop {
+    // Adds the line of the fault. Want of memory has none, and is handed on.
+    fn tell(self, out: &mut String) -> Result<(), AllocError>
+        ensures { Ends self (string_bytes out.old) (string_bytes out.new) result }
+    {
+        match self {
+            Stop::Fault(fault) => writeln!(out, "{fault}"),
+            Stop::NoMemory(e) => Err(e),
+        }
+    }
+}
+
 // A set-up at a place made no directory.
 fn unmade(cause: Unmade, place: usize) -> Stop
     ensures { result ≡ stop_at place cause }
@@ -60,7 +72,7 @@ fn directory<P: Blank, F: Blank, S: Blank>(
     heap: Global,
     plan: Plan,
 ) -> Result<Directory<P, F, S>, Unmade>
-    ensures { Sets P.words F.words S.words (λ n. P.fits n && (F.fits n && S.fits n)) plan result }
+    ensures { Sets P.words F.words S.words (each_fits P.fits F.fits S.fits) plan result }
 {
     let n = plan.size();
     let primaries = P::blank(heap, n)?;
@@ -131,7 +143,7 @@ fn play_plan<P: Blank, F: Blank, S: Blank>(
     steps: Enumerate<IntoIter>,
 ) -> Result<(), Stop>
     requires { Numbered 1 steps }
-    ensures { Plays (string_bytes out.old) (string_bytes out.new) (set_up_told plan place (steps_left (enumerate_source steps.entry)) (made (λ n. P.fits n && (F.fits n && S.fits n)) plan)) result }
+    ensures { Plays (string_bytes out.old) (string_bytes out.new) (set_up_told plan place (steps_left (enumerate_source steps.entry)) (made (each_fits P.fits F.fits S.fits) plan)) result }
 {
     let directory = directory::<P, F, S>(heap, plan).map_err(|cause| unmade(cause, place))?;
     let ready = Answer::new(plan.size() as u64, 0, Outcome::Going);
@@ -145,7 +157,7 @@ fn play<P: Blank, F: Blank, S: Blank>(
     out: &mut String,
     bytes: &[u8],
 ) -> Result<(), Stop>
-    ensures { Plays (string_bytes out.old) (string_bytes out.new) (told_by (λ n. P.fits n && (F.fits n && S.fits n)) bytes.now) result }
+    ensures { Plays (string_bytes out.old) (string_bytes out.new) (told_by (each_fits P.fits F.fits S.fits) bytes.now) result }
 {
     let mut steps = numbered(bytes)?;
     let Some(head) = steps.next() else {
@@ -165,16 +177,14 @@ pub fn transcript<P: Blank, F: Blank, S: Blank>(
     heap: Global,
     bytes: &[u8],
 ) -> Result<String, AllocError>
-    ensures by_size { IfOk result (λ s. string_bytes s ≡ told_by (λ n. P.fits n && (F.fits n && S.fits n)) bytes.now) }
-    ensures lines { IfOk result (λ s. HasALineForEach (λ n. P.fits n && (F.fits n && S.fits n)) bytes.now (string_bytes s)) }
-    ensures fronts { IfOk result (λ s. KeepsFronts (told_by (λ n. P.fits n && (F.fits n && S.fits n))) bytes.now (string_bytes s)) }
-    ensures whatever_makes { FitsPlans (λ n. P.fits n && (F.fits n && S.fits n)) → IfOk result (λ s. string_bytes s ≡ told bytes.now) }
+    ensures by_size { IfOk result (λ s. string_bytes s ≡ told_by (each_fits P.fits F.fits S.fits) bytes.now) }
+    ensures lines { IfOk result (λ s. HasALineForEach (each_fits P.fits F.fits S.fits) bytes.now (string_bytes s)) }
+    ensures fronts { IfOk result (λ s. KeepsFronts (told_by (each_fits P.fits F.fits S.fits)) bytes.now (string_bytes s)) }
+    ensures whatever_makes { FitsPlans (each_fits P.fits F.fits S.fits) → IfOk result (λ s. string_bytes s ≡ told bytes.now) }
 {
     let mut out = String::new(heap);
-    match play::<P, F, S>(heap, &mut out, bytes) {
-        Ok(()) => {}
-        Err(Stop::Fault(fault)) => writeln!(out, "{fault}")?,
-        Err(Stop::NoMemory(e)) => return Err(e),
+    if let Err(stop) = play::<P, F, S>(heap, &mut out, bytes) {
+        stop.tell(&mut out)?;
     }
     Ok(out)
 }
