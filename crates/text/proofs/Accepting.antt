@@ -1,5 +1,5 @@
 -- A step file that a text stands for has a text.
-use Rattle.std.proofs.Common.{◌≡◌, ℕ, zero, suc, ◌+◌, ◌-◌, ◌<◌, ◌≤◌, ◌&&◌, Bool, true, false, cond, eqb, ltb, leb, List, [], ◌∷◌, ◌++◌, length, drop, Some, None, Ok, Err, Option, Result, IsOk, IfOk, MatchResult, sym, refl, ap, ◌∙◌, subst, arith, length-append}
+use Rattle.std.proofs.Common.{◌≡◌, ℕ, zero, suc, ◌+◌, ◌-◌, ◌<◌, ◌≤◌, ◌&&◌, Bool, true, false, cond, eqb, ltb, leb, List, [], ◌∷◌, ◌++◌, length, drop, Some, None, Ok, Err, Option, Result, IsOk, sym, refl, ap, ◌∙◌, subst, arith, length-append}
 use Rattle.std.specs.List.{AllByRecursion, flat_map}
 use Rattle.std.specs.Option.{option_map}
 use Rattle.std.specs.Result.{result_map_both}
@@ -182,11 +182,6 @@ good-text file g =
     subst (λ xs. IsOk (text_of xs)) (sym g.is)
     (subst (λ o. IsOk (opened_text o)) (sym start) (all-ok (length bytes - 1) (1 ∷ []) g.es g.each))
 
-has-text : (lines : List (List ℕ)) (bytes : List ℕ) → parsing.lines_read lines ≡ Ok bytes → IsOk (text_of bytes)
+pub has-text : (lines : List (List ℕ)) (bytes : List ℕ) → parsing.lines_read lines ≡ Ok bytes → IsOk (text_of bytes)
 has-text lines bytes h =
     good-text bytes (with-lines lines 1 (1 ∷ []) bytes (record { es = []; is = refl; each = tt; short = omega arith }) h)
-
-pub read-has-text : {X E : Type 0} (view : X → List ℕ) (r : Result X E) (lines : List (List ℕ)) (Q : E → Type 0) → MatchResult r (λ v. parsing.lines_read lines ≡ Ok (view v)) Q
-    → IfOk r (λ v. IsOk (text_of (view v)))
-read-has-text view (Ok v) lines Q h = has-text lines (view v) h
-read-has-text view (Err e) lines Q h = tt

@@ -59,7 +59,8 @@ fn lines(heap: Global, text: &str) -> Result<Vec<&str>, AllocError>
 
 // The step file of lines.
 fn read_lines(heap: Global, lines: &[&str]) -> Result<Vec<u8>, TextFault>
-    ensures { AnswersText vec_items (lines_read (map (λ l. l.now) lines.now)) result }
+    ensures file { AnswersText vec_items (lines_read (map (λ l. l.now) lines.now)) result }
+    ensures has_text { IfOk result (λ v. IsOk (text_of v.items)) }
 {
     let mut file = [VERSION].to_vec(heap)?;
     for (i, line) in lines.iter().enumerate() {
