@@ -1,5 +1,5 @@
 -- A step file that a text stands for has a text.
-use Rattle.std.proofs.Common.{◌≡◌, ℕ, zero, suc, ◌+◌, ◌-◌, ◌<◌, ◌≤◌, ◌&&◌, Bool, true, false, cond, eqb, ltb, leb, List, [], ◌∷◌, ◌++◌, length, drop, Some, None, Ok, Err, Option, Result, IsOk, IfOk, MatchResult, sym, refl, ap, ◌∙◌, subst, arith, length-append}
+use Rattle.std.proofs.Common.{◌≡◌, ℕ, zero, suc, ◌+◌, ◌-◌, ◌<◌, ◌≤◌, ◌&&◌, Bool, true, false, cond, eqb, ltb, leb, List, [], ◌∷◌, ◌++◌, length, drop, Some, None, Ok, Err, Option, Result, IsOk, sym, refl, ap, ◌∙◌, subst, arith, length-append}
 use Rattle.std.specs.List.{AllByRecursion, flat_map}
 use Rattle.std.specs.Option.{option_map}
 use Rattle.std.specs.Result.{result_map_both}
@@ -20,9 +20,8 @@ use Rattle.text.specs.declared.fault.LineFault.TheVariants.{TooBig, FileTooLong}
 use Rattle.text.specs.declared.fields.Width.{Width}
 use Rattle.text.specs.declared.fields.Width.TheVariants.{One, Two, Eight}
 use Rattle.text.specs.Fields.{size, limit, number_at, number_bytes, widths, regions, numbers_in, behind, bytes_of, counted, entry_of}
-use Rattle.text.specs.Parsing as parsing
-use Rattle.text.specs.Parsing.{step_read, entry_read, line_read, with_entry, with_line, at_line, with_lines}
-use Rattle.text.specs.Printing.{entry_line, and_lines, and_others, lines_read, opened_text, text_of}
+use Rattle.text.specs.Parsing.{step_read, entry_read, line_read, with_entry, with_line, at_line, with_lines, lines_read}
+use Rattle.text.specs.Printing.{entry_line, and_lines, and_others, lines_within, opened_text, text_of}
 use Rattle.text.specs.Words.{and_then, numbers_read, words}
 use Rattle.text.proofs.Listing.{entry_line-known}
 use Rattle.text.proofs.Refilling.{same-regions}
@@ -153,13 +152,13 @@ both-ok (Ok l) (Ok more) h k = refl
 both-ok (Ok l) (Err f) h k = k
 both-ok (Err f) others h k = h
 
-all-ok : (n : ℕ) (pre : List ℕ) (es : List (List ℕ)) → AllByRecursion (λ e. HasLine e × (length e < 65536)) es → IsOk (lines_read n (at (pre ++ flat_map with_length es) (length pre)))
-unfolding lines_read HasLine
+all-ok : (n : ℕ) (pre : List ℕ) (es : List (List ℕ)) → AllByRecursion (λ e. HasLine e × (length e < 65536)) es → IsOk (lines_within n (at (pre ++ flat_map with_length es) (length pre)))
+unfolding lines_within HasLine
 all-ok zero pre es h = refl
 all-ok (suc n) pre [] h =
     let p = at (pre ++ []) (length pre) in
     let ended : entry_at p ≡ Ok None = nothing-behind p (omega (arith, length-append pre [])) in
-    is-ok _ [] (ap (λ o. and_others o (lines_read n (passed p))) ended)
+    is-ok _ [] (ap (λ o. and_others o (lines_within n (passed p))) ended)
 all-ok (suc n) pre (e ∷ es) h =
     let rest = flat_map with_length es in
     let file = pre ++ (with_length e ++ rest) in
@@ -167,11 +166,11 @@ all-ok (suc n) pre (e ∷ es) h =
     let whole = whole-there pre e rest h.0.1 in
     let next : passed p ≡ at ((pre ++ with_length e) ++ rest) (length (pre ++ with_length e)) =
     passed-whole p whole ∙ ap (at file) (end-there pre e rest h.0.1) ∙ ap (λ xs. at xs (length (pre ++ with_length e))) (sym (append_assoc pre (with_length e) rest)) in
-    let others : IsOk (lines_read n (passed p)) = subst (λ (q : Position). IsOk (lines_read n q)) (sym next) (all-ok n (pre ++ with_length e) es h.1) in
+    let others : IsOk (lines_within n (passed p)) = subst (λ (q : Position). IsOk (lines_within n q)) (sym next) (all-ok n (pre ++ with_length e) es h.1) in
     let line : IsOk (entry_line (length pre) (entry p).content) = subst (λ xs. IsOk (entry_line (length pre) xs)) (sym (content-there pre e rest h.0.1)) (h.0.0 (length pre)) in
     subst (λ (r : Result (List ℕ) EntryFault). IsOk r)
-    (sym (ap (λ o. and_others o (lines_read n (passed p))) (cond-true (is_whole p) (Ok (Some (entry p))) _ whole)))
-    (both-ok (entry_line (length pre) (entry p).content) (lines_read n (passed p)) line others)
+    (sym (ap (λ o. and_others o (lines_within n (passed p))) (cond-true (is_whole p) (Ok (Some (entry p))) _ whole)))
+    (both-ok (entry_line (length pre) (entry p).content) (lines_within n (passed p)) line others)
 
 good-text : (file : List ℕ) → Good file → IsOk (text_of file)
 good-text file g =
@@ -182,11 +181,6 @@ good-text file g =
     subst (λ xs. IsOk (text_of xs)) (sym g.is)
     (subst (λ o. IsOk (opened_text o)) (sym start) (all-ok (length bytes - 1) (1 ∷ []) g.es g.each))
 
-has-text : (lines : List (List ℕ)) (bytes : List ℕ) → parsing.lines_read lines ≡ Ok bytes → IsOk (text_of bytes)
+pub has-text : (lines : List (List ℕ)) (bytes : List ℕ) → lines_read lines ≡ Ok bytes → IsOk (text_of bytes)
 has-text lines bytes h =
     good-text bytes (with-lines lines 1 (1 ∷ []) bytes (record { es = []; is = refl; each = tt; short = omega arith }) h)
-
-pub read-has-text : {X E : Type 0} (view : X → List ℕ) (r : Result X E) (lines : List (List ℕ)) (Q : E → Type 0) → MatchResult r (λ v. parsing.lines_read lines ≡ Ok (view v)) Q
-    → IfOk r (λ v. IsOk (text_of (view v)))
-read-has-text view (Ok v) lines Q h = has-text lines (view v) h
-read-has-text view (Err e) lines Q h = tt

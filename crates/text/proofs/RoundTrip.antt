@@ -17,7 +17,7 @@ use Rattle.steps.proofs.Cutting.{one_more, passed-whole, opened-begins, opened-a
 use Rattle.text.specs.declared.fault.LineFault.TheVariants.{FileTooLong}
 use Rattle.text.specs.Fields.{numbers_in, regions, widths}
 use Rattle.text.specs.Parsing.{line_read, with_entry, at_line, with_lines, text_read}
-use Rattle.text.specs.Printing.{line, numbers_line, kind_line, entry_line, and_lines, and_others, lines_read, opened_text, text_of}
+use Rattle.text.specs.Printing.{line, numbers_line, kind_line, entry_line, and_lines, and_others, lines_within, opened_text, text_of}
 use Rattle.text.specs.Words.{and_then}
 use Rattle.text.proofs.Refilling.{below-drop, entry-back, numbers-back}
 use Rattle.text.proofs.Rereading.{body, is-body, line-back, line-is}
@@ -143,19 +143,19 @@ one-line p k t others u short whole h rest =
     ∙ rest parts.more parts.more-is
 
 one-turn : (n : ℕ) (p : Position) (k : ℕ) (t : List ℕ) (b : Bool) → is_whole p ≡ b → AllBelowBase 256 p.file → length p.file ≤ 65536
-    → and_others (entry_at p) (lines_read n (passed p)) ≡ Ok t
-    → ((more : List ℕ) → lines_read n (at p.file (end_of p)) ≡ Ok more → Whole (at p.file (end_of p)) (k + 1) more) → Whole p k t
+    → and_others (entry_at p) (lines_within n (passed p)) ≡ Ok t
+    → ((more : List ℕ) → lines_within n (at p.file (end_of p)) ≡ Ok more → Whole (at p.file (end_of p)) (k + 1) more) → Whole p k t
 one-turn n p k t true w u short h rest =
-    let read : and_others (entry_at p) (lines_read n (passed p)) ≡ and_lines (entry_line p.place (entry p).content) (lines_read n (passed p)) =
-    ap (λ o. and_others o (lines_read n (passed p))) (cond-true (is_whole p) (Ok (Some (entry p))) _ w) in
-    one-line p k t (lines_read n (passed p)) u short (leb-true (end_of p) (length p.file) w) (sym read ∙ h)
-    (λ more e. rest more (ap (lines_read n) (sym (passed-whole p w)) ∙ e))
+    let read : and_others (entry_at p) (lines_within n (passed p)) ≡ and_lines (entry_line p.place (entry p).content) (lines_within n (passed p)) =
+    ap (λ o. and_others o (lines_within n (passed p))) (cond-true (is_whole p) (Ok (Some (entry p))) _ w) in
+    one-line p k t (lines_within n (passed p)) u short (leb-true (end_of p) (length p.file) w) (sym read ∙ h)
+    (λ more e. rest more (ap (lines_within n) (sym (passed-whole p w)) ∙ e))
 one-turn n p k t false w u short h rest =
-    cut-or-ended p k t (lines_read n (passed p)) (leb (length p.file) p.place) refl
-    (ap (λ o. and_others o (lines_read n (passed p))) (sym (cond-false (is_whole p) (Ok (Some (entry p))) (cond (leb (length p.file) p.place) (Ok None) (Err (CutShort p.place))) w)) ∙ h)
+    cut-or-ended p k t (lines_within n (passed p)) (leb (length p.file) p.place) refl
+    (ap (λ o. and_others o (lines_within n (passed p))) (sym (cond-false (is_whole p) (Ok (Some (entry p))) (cond (leb (length p.file) p.place) (Ok None) (Err (CutShort p.place))) w)) ∙ h)
 
-back : (n : ℕ) (p : Position) (k : ℕ) (t : List ℕ) → AllBelowBase 256 p.file → length p.file ≤ 65536 → length p.file ≤ p.place + n → lines_read n p ≡ Ok t → Whole p k t
-unfolding lines_read
+back : (n : ℕ) (p : Position) (k : ℕ) (t : List ℕ) → AllBelowBase 256 p.file → length p.file ≤ 65536 → length p.file ≤ p.place + n → lines_within n p ≡ Ok t → Whole p k t
+unfolding lines_within
 back zero p k t u short enough h = ended p k t (omega (arith, enough)) cc
 back (suc n) p k t u short enough h =
     one-turn n p k t (is_whole p) refl u short h (λ more e. back n (at p.file (end_of p)) (k + 1) more u short (omega (arith, enough)) e)
@@ -172,7 +172,7 @@ unfolding Whole
 opened-back bytes t (Err f) u e h = let z : ◌≡◌ {A = ℕ} 0 1 = cc in absurd (omega arith)
 opened-back bytes t (Ok start) u e h =
     let here = opened-at bytes start e in
-    let read : lines_read (length bytes - 1) (at bytes 1) ≡ Ok t = ap (λ (p : Position). lines_read (length p.file - p.place) p) (sym here) ∙ h in
+    let read : lines_within (length bytes - 1) (at bytes 1) ≡ Ok t = ap (λ (p : Position). lines_within (length p.file - p.place) p) (sym here) ∙ h in
     ap (λ xs. with_lines xs 1 (slice_split (λ b. eqb b 10) t)) (sym (opened-begins bytes start e))
     ∙ back (length bytes - 1) (at bytes 1) 1 t u (not-too-long bytes start (ltb 65536 (length bytes)) _ refl e) (omega arith) read
 

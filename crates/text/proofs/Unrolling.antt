@@ -10,12 +10,12 @@ use Rattle.text.specs.declared.fault.FileFault.{FileFault}
 use Rattle.text.specs.declared.fault.FileFault.TheVariants.{Entry, NoMemory}
 use Rattle.text.specs.Faults.{Faulty}
 use Rattle.text.specs.Fields.{behind}
-use Rattle.text.specs.Printing.{and_lines, and_others, lines_read, lines_from}
+use Rattle.text.specs.Printing.{and_lines, and_others, lines_within, lines_from}
 
-none-behind : (n : ℕ) (p : Position) → length p.file ≤ p.place → lines_read n p ≡ Ok []
-unfolding lines_read
+none-behind : (n : ℕ) (p : Position) → length p.file ≤ p.place → lines_within n p ≡ Ok []
+unfolding lines_within
 none-behind zero p h = refl
-none-behind (suc n) p h = ap (λ o. and_others o (lines_read n (passed p))) (nothing-behind p h)
+none-behind (suc n) p h = ap (λ o. and_others o (lines_within n (passed p))) (nothing-behind p h)
 
 -- where no entry is read, what comes behind does not count
 ends-or-cut : (at_end : Bool) (place : ℕ) (others more : Result (List ℕ) EntryFault)
@@ -29,33 +29,33 @@ no-entry p others more h =
     ap (λ o. and_others o others) is ∙ ends-or-cut (leb (length p.file) p.place) p.place others more ∙ ap (λ o. and_others o more) (sym is)
 
 -- one entry is read, and others behind it
-one-read : (n m : ℕ) (p : Position) (b : Bool) → is_whole p ≡ b → lines_read n (at p.file (end_of p)) ≡ lines_read m (at p.file (end_of p))
-    → and_others (entry_at p) (lines_read n (passed p)) ≡ and_others (entry_at p) (lines_read m (passed p))
+one-read : (n m : ℕ) (p : Position) (b : Bool) → is_whole p ≡ b → lines_within n (at p.file (end_of p)) ≡ lines_within m (at p.file (end_of p))
+    → and_others (entry_at p) (lines_within n (passed p)) ≡ and_others (entry_at p) (lines_within m (passed p))
 one-read n m p true h e =
     let to = passed-whole p h in
-    ap (λ q. and_others (entry_at p) (lines_read n q)) to ∙ ap (and_others (entry_at p)) e ∙ ap (λ q. and_others (entry_at p) (lines_read m q)) (sym to)
-one-read n m p false h e = no-entry p (lines_read n (passed p)) (lines_read m (passed p)) h
+    ap (λ q. and_others (entry_at p) (lines_within n q)) to ∙ ap (and_others (entry_at p)) e ∙ ap (λ q. and_others (entry_at p) (lines_within m q)) (sym to)
+one-read n m p false h e = no-entry p (lines_within n (passed p)) (lines_within m (passed p)) h
 
 -- what is read does not hang on how often, if it is as often as there are bytes
-often-enough : (n m : ℕ) (p : Position) → length p.file ≤ p.place + n → length p.file ≤ p.place + m → lines_read n p ≡ lines_read m p
-unfolding lines_read
+often-enough : (n m : ℕ) (p : Position) → length p.file ≤ p.place + n → length p.file ≤ p.place + m → lines_within n p ≡ lines_within m p
+unfolding lines_within
 often-enough zero m p h k = sym (none-behind m p (omega (arith, h)))
 often-enough (suc n) zero p h k = none-behind (suc n) p (omega (arith, k))
 often-enough (suc n) (suc m) p h k =
     one-read n m p (is_whole p) refl (often-enough n m (at p.file (end_of p)) (omega (arith, h)) (omega (arith, k)))
 
 last-read : (p : Position) (b : Bool) → is_whole p ≡ b
-    → and_others (entry_at p) (lines_read (length p.file - p.place) (passed p)) ≡ and_others (entry_at p) (lines_from (passed p))
+    → and_others (entry_at p) (lines_within (length p.file - p.place) (passed p)) ≡ and_others (entry_at p) (lines_from (passed p))
 last-read p true h =
     let q = at p.file (end_of p) in
     let to = passed-whole p h in
-    ap (λ r. and_others (entry_at p) (lines_read (length p.file - p.place) r)) to
+    ap (λ r. and_others (entry_at p) (lines_within (length p.file - p.place) r)) to
     ∙ ap (and_others (entry_at p)) (often-enough (length p.file - p.place) (length q.file - q.place) q (omega arith) (omega arith))
     ∙ ap (λ r. and_others (entry_at p) (lines_from r)) (sym to)
 last-read p false h = no-entry p _ _ h
 
 pub unrolled : (p : Position) → lines_from p ≡ and_others (entry_at p) (lines_from (passed p))
-unfolding lines_read
+unfolding lines_within
 unrolled p =
     often-enough (length p.file - p.place) (suc (length p.file - p.place)) p (omega arith) (omega arith)
     ∙ last-read p (is_whole p) refl

@@ -22,6 +22,7 @@ abbrev pub numbers_line : ℕ → EntryKind → Option (List ℕ) → Result (Li
 numbers_line place kind None = Err (WrongLength place)
 numbers_line place kind (Some ns) = Ok (line kind ns)
 
+-- the line of an entry whose kind byte is that of a kind, if one has it
 abbrev pub kind_line : ℕ → Option EntryKind → List ℕ → Result (List ℕ) EntryFault
 kind_line place None fields = Err (UnknownKind place)
 kind_line place (Some kind) fields = numbers_line place kind (numbers_in (widths kind (regions kind fields)) fields)
@@ -42,14 +43,14 @@ and_others (Err f) others = Err (Frame f)
 and_others (Ok None) others = Ok []
 and_others (Ok (Some e)) others = and_lines (entry_line e.place e.content) others
 
--- the lines from a position on, where it is read `n` times
-unfoldable pub lines_read : ℕ → Position → Result (List ℕ) EntryFault
-lines_read zero p = Ok []
-lines_read (suc n) p = and_others (entry_at p) (lines_read n (passed p))
+-- the lines of the entries that `n` reads from a position on hand out, up to the end or a fault
+unfoldable pub lines_within : ℕ → Position → Result (List ℕ) EntryFault
+lines_within zero p = Ok []
+lines_within (suc n) p = and_others (entry_at p) (lines_within n (passed p))
 
 -- the lines of all entries from a position on: each has a byte at least
 abbrev pub lines_from : Position → Result (List ℕ) EntryFault
-lines_from p = lines_read (length p.file - p.place) p
+lines_from p = lines_within (length p.file - p.place) p
 
 -- the text of a file that was opened
 abbrev pub opened_text : Result Position FrameFault → Result (List ℕ) EntryFault

@@ -1,11 +1,11 @@
 // A text is read as a step file.
-ghost use Rattle.std.specs.Prelude.{◌≡◌, map, ◌==◌, IfOk, IsOk, vec_items};
+ghost use Rattle.std.specs.Prelude.{◌≡◌, map, ◌==◌, IfOk, vec_items};
 ghost use Rattle.std.specs.List.{slice_split};
 ghost use Rattle.std.specs.Option.{option_map};
 ghost use Rattle.steps.specs.Kinds.{kind_named};
 ghost use Rattle.text.specs.Faults.{Answers, AnswersText};
+ghost use Rattle.text.specs.Laws.{HasText};
 ghost use Rattle.text.specs.Parsing.{step_read, line_read, with_line, lines_read, text_read};
-ghost use Rattle.text.specs.Printing.{text_of};
 
 use crate::fault::{LineFault, TextFault};
 use crate::fields::entry_of;
@@ -59,7 +59,8 @@ fn lines(heap: Global, text: &str) -> Result<Vec<&str>, AllocError>
 
 // The step file of lines.
 fn read_lines(heap: Global, lines: &[&str]) -> Result<Vec<u8>, TextFault>
-    ensures { AnswersText vec_items (lines_read (map (λ l. l.now) lines.now)) result }
+    ensures file { AnswersText vec_items (lines_read (map (λ l. l.now) lines.now)) result }
+    ensures has_text { IfOk result (λ v. HasText v.items) }
 {
     let mut file = [VERSION].to_vec(heap)?;
     for (i, line) in lines.iter().enumerate() {
@@ -73,7 +74,7 @@ fn read_lines(heap: Global, lines: &[&str]) -> Result<Vec<u8>, TextFault>
 // The step file that a text stands for.
 pub fn from_text(heap: Global, text: &str) -> Result<Vec<u8>, TextFault>
     ensures file { AnswersText vec_items (text_read text.now) result }
-    ensures has_text { IfOk result (λ v. IsOk (text_of v.items)) }
+    ensures has_text { IfOk result (λ v. HasText v.items) }
 {
     let lines = lines(heap, text)?;
     read_lines(heap, &lines)

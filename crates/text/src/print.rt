@@ -1,8 +1,7 @@
 // A step file is written as a text.
 ghost use Rattle.std.specs.Prelude.{◌≡◌, ◌++◌, Ok, IfOk, OnOk, MatchResult};
 ghost use Rattle.std.specs.String.{string_bytes};
-ghost use Rattle.text.specs.Laws.{FaultsOfSteps};
-ghost use Rattle.text.specs.Parsing.{text_read};
+ghost use Rattle.text.specs.Laws.{ReadsBack, FaultsOfSteps};
 ghost use Rattle.text.specs.Printing.{line, entry_line, text_of};
 ghost use Rattle.text.specs.Faults.{Faulty};
 ghost use Rattle.text.specs.Fields.{behind};
@@ -51,7 +50,7 @@ pub fn to_text(heap: Global, bytes: &[u8]) -> Result<String, FileFault>
         (λ t. text_of bytes.now ≡ Ok (string_bytes t))
         (Faulty (text_of bytes.now)) }
     ensures faults_of_steps { FaultsOfSteps }
-    ensures reads_back { IfOk result (λ t. text_read (string_bytes t) ≡ Ok bytes.now) }
+    ensures reads_back { IfOk result (λ t. ReadsBack bytes.now (string_bytes t)) }
 {
     let mut text = String::new(heap);
     let mut reader = Reader::open(bytes)?;
