@@ -2,6 +2,8 @@
 use Rattle.std.specs.Prelude.{◌≡◌, ℕ, ◌<◌, List, [], ◌∷◌, codes, Option, Result, MatchResult}
 use Rattle.std.specs.List.{find}
 use Rattle.std.specs.Str.{bytes_eq}
+use Rattle.protocol.specs.declared.call.Call.{Call}
+use Rattle.protocol.specs.declared.call.Call.TheVariants as call
 use Rattle.steps.specs.declared.kind.EntryKind.{EntryKind}
 use Rattle.steps.specs.declared.kind.EntryKind.TheVariants.{SetUp, Open, Read, Write, Abandon, Commit, Send, Poll, Take, Check, Trim}
 use Rattle.steps.specs.declared.kind.UnknownKind.{UnknownKind}
@@ -23,6 +25,19 @@ kind_number Trim = 10
 -- the kind of this number, or the number itself where it is above 10 and no kind has it
 abbrev pub IsKindOf : ℕ → Result EntryKind UnknownKind → Type 0
 IsKindOf number r = MatchResult r (λ kind. kind_number kind ≡ number) (λ e. (e.0 ≡ number) × (10 < number))
+
+-- the kind of a call's entry
+abbrev pub kind_of : Call → EntryKind
+kind_of (call.Open c) = Open
+kind_of (call.Read c a) = Read
+kind_of (call.Write c a v) = Write
+kind_of (call.Abandon c) = Abandon
+kind_of (call.Commit c) = Commit
+kind_of (call.Send c) = Send
+kind_of (call.Poll c m) = Poll
+kind_of (call.Take c m) = Take
+kind_of (call.Check c) = Check
+kind_of (call.Trim c m) = Trim
 
 -- the name of a kind
 abbrev pub kind_name : EntryKind → List ℕ

@@ -1,9 +1,10 @@
 // The kinds of entries.
 ghost use Rattle.std.specs.Prelude.{◌≡◌};
 ghost use Rattle.std.specs.Option.{ok_or};
-ghost use Rattle.steps.specs.Kinds.{IsKindOf, kind_number, kind_name, first_named, kind_named};
+ghost use Rattle.steps.specs.Kinds.{IsKindOf, kind_number, kind_of, kind_name, first_named, kind_named};
 ghost use Rattle.steps.specs.declared.kind.UnknownName.{UnknownName};
 
+use protocol::call::Call;
 use std::str::FromStr;
 
 // An entry's first byte is the number of its kind.
@@ -54,6 +55,25 @@ impl EntryKind {
             EntryKind::Take => "take",
             EntryKind::Check => "check",
             EntryKind::Trim => "trim",
+        }
+    }
+}
+
+impl From<Call> for EntryKind {
+    ghost from_gives = { λ call r. r ≡ kind_of call };
+
+    fn from(call: Call) -> EntryKind {
+        match call {
+            Call::Open(_) => EntryKind::Open,
+            Call::Read(_, _) => EntryKind::Read,
+            Call::Write(_, _, _) => EntryKind::Write,
+            Call::Abandon(_) => EntryKind::Abandon,
+            Call::Commit(_) => EntryKind::Commit,
+            Call::Send(_) => EntryKind::Send,
+            Call::Poll(_, _) => EntryKind::Poll,
+            Call::Take(_, _) => EntryKind::Take,
+            Call::Check(_) => EntryKind::Check,
+            Call::Trim(_, _) => EntryKind::Trim,
         }
     }
 }
