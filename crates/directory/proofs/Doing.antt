@@ -1,11 +1,11 @@
 -- What a call does behind the checks that come first: it is refused, or its coordinator is changed.
-use Rattle.std.proofs.Common.{◌≡◌, ℕ, ◌<◌, Bool, true, false, cond, ltb, List, get_or, set, IsErrAnd, Ok, Err, Result, sym, refl, ap, ◌∙◌, subst, ⊎_elim, arith}
-use Rattle.std.proofs.lemmas.Bool.{ltb-true, cases_eq}
+use Rattle.std.proofs.Common.{◌≡◌, ℕ, ◌<◌, ◌≤◌, Bool, true, false, cond, ltb, List, get_or, set, IsErrAnd, Ok, Err, Result, sym, refl, ap, ◌∙◌, subst, ⊎_elim, arith}
+use Rattle.std.proofs.lemmas.Bool.{ltb-true, ltb-false, cases_eq}
 use Rattle.protocol.specs.declared.plan.Plan.{Plan}
 use Rattle.protocol.specs.declared.call.Call.{Call}
 use Rattle.protocol.specs.declared.call.Answer.{Answer}
 use Rattle.protocol.specs.declared.call.Refusal.{Refusal}
-use Rattle.protocol.specs.declared.call.Refusal.TheVariants.{BadPlan, BadTables, NoCoordinator}
+use Rattle.protocol.specs.declared.call.Refusal.TheVariants.{BadPlan, BadTables, NoCoordinator, NoMachine}
 use Rattle.protocol.specs.declared.record.Record.{Record}
 use Rattle.protocol.specs.declared.record.Reply.{Reply}
 use Rattle.protocol.specs.Lists.{upd}
@@ -23,7 +23,7 @@ use Rattle.protocol.proofs.Keeps.{calls-keep}
 use Rattle.directory.specs.declared.tables.Coordinator.{Coordinator}
 use Rattle.directory.specs.View.{World, world, view, own, is_fitting}
 use Rattle.directory.specs.Sound.{Sound, Rings}
-use Rattle.directory.specs.Checks.{admitted}
+use Rattle.directory.specs.Checks.{admitted, machine_admitted}
 use Rattle.directory.specs.Calls.{Does, RestStays}
 use Rattle.directory.proofs.Plans.{Fits, fits-of}
 use Rattle.directory.proofs.Views.{owns-at, view-set, first-at, first-set}
@@ -47,6 +47,16 @@ module _ (p : Plan) (w : World) (c : ℕ) where
 
   pub inside : Ok tt ≡ admitted p w c → Inside p w c
   inside e = let h = all_hold (is_fine p) (is_fitting p w) (ltb c p.coordinators) e in record { fine = h.0; fits = h.1; below = h.2 }
+
+-- the machine that a call names
+module _ (p : Plan) (m : ℕ) where
+  machine-out : (n : Refusal) (b : Bool) → Err n ≡ unless NoMachine b → (n ≡ NoMachine) × (b ≡ false)
+  unfolding unless
+  machine-out n true e = untrue (sym e)
+  machine-out n false e = (cc, refl)
+
+  pub machine-missing : (n : Refusal) → Err n ≡ machine_admitted p m → (n ≡ NoMachine) × (p.machines ≤ m)
+  machine-missing n e = let out = machine-out n (ltb m p.machines) e in (out.0, ltb-false m p.machines out.1)
 
 module _ (p : Plan) (w : World) (call : Call) where
   abbrev c : ℕ
@@ -76,10 +86,21 @@ module _ (p : Plan) (w : World) (call : Call) where
     rest = record { coordinators = refl; records = refl; replies = refl };
   }
 
-  -- the same, as a `?` hands the refusal on
+  -- a refusal that a `?` hands on
+  pub hands-on : (r : Result Answer Refusal) (n : Refusal) → IsErrAnd r (λ m. m ≡ n) → Does p w w (Err n) call → Does p w w r call
+  hands-on (Ok a) n h d = absurd h
+  hands-on (Err m) n h d = subst (λ (k : Refusal). Does p w w (Err k) call) (sym h) d
+
   pub handed-on : (r : Result Answer Refusal) (n : Refusal) → IsErrAnd r (λ m. m ≡ n) → Err n ≡ admitted p w c → Does p w w r call
-  handed-on (Ok a) n h e = absurd h
-  handed-on (Err m) n h e = subst (λ (k : Refusal). Does p w w (Err k) call) (sym h) (turned-away n e)
+  handed-on r n h e = hands-on r n h (turned-away n e)
+
+  -- a refusal that stands behind an equation
+  pub refused-so : (n k : Refusal) → n ≡ k → Does p w w (Err k) call → Does p w w (Err n) call
+  refused-so n k e d = subst (λ (z : Refusal). Does p w w (Err z) call) (sym e) d
+
+  -- an answer that stands behind an equation
+  pub answered-so : (after : World) (a b : Answer) → a ≡ b → Does p w after (Ok b) call → Does p w after (Ok a) call
+  answered-so after a b e d = subst (λ (z : Answer). Does p w after (Ok z) call) (sym e) d
 
   gone : (f g b : Bool) (t : Try Accepted) → true ≡ f → true ≡ g → true ≡ b
       → settle v c t ≡ cond f (cond g (settle v c (unless NoCoordinator b >> t)) (stepped (Err BadTables) v)) (stepped (Err BadPlan) v)

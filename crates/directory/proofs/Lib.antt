@@ -16,6 +16,7 @@ pub mod Passing
 pub mod Polling
 pub mod Blocks
 pub mod GoingOn
+pub mod Lookups
 pub mod Logging
 pub mod Sending
 pub mod Trimming

@@ -40,10 +40,10 @@ use Rattle.handling.proofs.Handles.{all-reverse}
 use Rattle.directory.specs.declared.tables.Coordinator.{Coordinator}
 use Rattle.directory.specs.View.{World, world, own, log_of, logs_of, queues_of}
 use Rattle.directory.specs.Sound.{Sound}
-use Rattle.directory.specs.Polls.{passed_log, replied}
+use Rattle.directory.specs.Polls.{passed_log, replied, Passes}
 use Rattle.directory.specs.Calls.{Does}
 use Rattle.directory.proofs.Plans.{Sizes, sizes-of, fits-of}
-use Rattle.directory.proofs.Doing.{Inside, mine, here, refuses, refuses-always, changes, invariant-of}
+use Rattle.directory.proofs.Doing.{Inside, mine, here, refuses, refuses-always, answered-so, changes, invariant-of}
 use Rattle.directory.proofs.Working.{same-entry, proper}
 use Rattle.directory.proofs.Rooms.{log-records}
 use Rattle.directory.proofs.Pairs as pairs
@@ -226,24 +226,18 @@ module _ (p : Plan) (w : World) (c m : ℕ) (in' : Inside p w c) where
           → (n : ℕ) (t : Option Bool) (a b z : Words)
           → (Ready p (get_or e.logs m empty_ring) part w.primaries w.firsts w.seconds → Lines p (note x).lines → c < 15
           → effect n t a b z ≡ handled p c m w.primaries w.firsts w.seconds (polled (get_or e.logs m empty_ring) part) (note x) x.kind)
-          → (r q : Ring) (ys : List Reply) → length ys ≡ length answers
-          → (ring.Sound (get_or o.logs m empty_ring) (length part) → ring.Sound r (length part))
-          → (ring.Sound (get_or o.logs m empty_ring) (length part) → (y : Record) → NextIs (notes (get_or o.logs m empty_ring) part) (get_or o.logs m empty_ring).cursor (Some y)
-          → log_of r part ≡ passed_log (polled (get_or o.logs m empty_ring) part) (note y) (drop ((get_or o.logs m empty_ring).cursor + 1) (notes (get_or o.logs m empty_ring) part)) x.kind)
-          → (ring.Sound (get_or o.queues m empty_ring) (length answers) → ring.Sound q (length answers))
-          → (ring.Sound (get_or o.queues m empty_ring) (length answers) → (get_or o.queues m empty_ring).len < length answers
-          → contents q ys ≡ replied (contents (get_or o.queues m empty_ring) answers) x.number t)
+          → (co : Coordinator) (ys : List Reply) → Passes m o co part answers ys x t
           → (said : Answer) → said ≡ answered (number_of x.kind) n Going
-          → Does p w (world (set w.coordinators c (record { work = o.work; logs = set o.logs m r; queues = set o.queues m q })) w.records (put_mid (b' * 4) j w.replies ys) a b z)
-          (Ok said) (Poll c m)
+          → Does p w (world (set w.coordinators c co) w.records (put_mid (b' * 4) j w.replies ys) a b z) (Ok said) (Poll c m)
 
       whole : Polls (get_or w.coordinators c d) (get_or w.coordinators c d) slots places (c * p.machines + m) 4
-      whole x next n t a b z does-so r q ys long r-stands passes q-stands replies said is =
-          let o = get_or w.coordinators c d in
-          subst
-          (λ (i : Answer). Does p w (world (set w.coordinators c (record { work = o.work; logs = set o.logs m r; queues = set o.queues m q })) w.records (put_mid ((c * p.machines + m) * 4) 4 w.replies ys) a b z) (Ok i) (Poll c m))
-          (sym is)
-          (polled-one words d x next n t a b z does-so r q ys (long ∙ pairs.long-places p w c m in' below) r-stands passes q-stands replies)
+      whole x next n t a b z does-so co ys passed said is =
+          let pair = passed.3 in
+          answered-so p w (Poll c m) _ said _ is
+          (subst
+          (λ (k : Coordinator). Does p w (world (set w.coordinators c k) w.records (put_mid ((c * p.machines + m) * 4) 4 w.replies ys) a b z) (Ok (answered (number_of x.kind) n Going)) (Poll c m))
+          (sym passed.2)
+          (polled-one words d x next n t a b z does-so passed.0 passed.1 ys (pair.long ∙ pairs.long-places p w c m in' below) pair.log_stands pair.log pair.queue_stands pair.queue))
 
       pub polls : (e : Coordinator) → (part : List Record) → part ≡ slots → (answers : List Reply) → answers ≡ places → (b' : ℕ) → b' ≡ c * p.machines + m → (j : ℕ) → j ≡ 4
           → Polls (get_or w.coordinators c e) (get_or w.coordinators c d) part answers b' j

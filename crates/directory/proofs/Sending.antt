@@ -1,5 +1,5 @@
 -- What send does on each way out.
-use Rattle.std.proofs.Common.{◌≡◌, ℕ, ◌+◌, ◌*◌, ◌<◌, true, false, List, [], ◌∷◌, get_or, set, Some, None, Ok, Err, sym, refl, ap, ◌∙◌, subst}
+use Rattle.std.proofs.Common.{◌≡◌, ℕ, ◌+◌, ◌*◌, ◌<◌, true, false, List, [], ◌∷◌, get_or, set, Some, None, Ok, Err, sym, refl, ap, ◌∙◌, subst, ⊎_elim}
 use Rattle.std.proofs.lemmas.Bool.{true≢false}
 use Rattle.memory.specs.Words.{at, Proper}
 use Rattle.ring.specs.declared.Ring.{Ring}
@@ -12,6 +12,7 @@ use Rattle.protocol.specs.declared.record.Record.{Record}
 use Rattle.protocol.specs.declared.call.Call.TheVariants.{Send}
 use Rattle.protocol.specs.declared.call.Outcome.{Outcome}
 use Rattle.protocol.specs.declared.call.Outcome.TheVariants.{Going}
+use Rattle.protocol.specs.declared.call.Refusal.{Refusal}
 use Rattle.protocol.specs.declared.call.Refusal.TheVariants.{WrongPhase, NoRoom, Nothing}
 use Rattle.protocol.specs.Record.{number_of}
 use Rattle.protocol.specs.Room.{primary_machines}
@@ -34,10 +35,10 @@ use Rattle.directory.specs.declared.tables.Phase.TheVariants as tables
 use Rattle.directory.specs.declared.tables.Work.{Work}
 use Rattle.directory.specs.declared.tables.Coordinator.{Coordinator}
 use Rattle.directory.specs.View.{World, world, own, phase_of, reads_of, writes_of, awaited_of}
-use Rattle.directory.specs.Due.{due_in, reports, gone_on, GoneOn}
+use Rattle.directory.specs.Due.{due_in, IsNext, reports, gone_on, GoneOn}
 use Rattle.directory.specs.Slots.{Appended}
 use Rattle.directory.specs.Calls.{Does}
-use Rattle.directory.proofs.Doing.{Inside, mine, here, invariant-of, refuses}
+use Rattle.directory.proofs.Doing.{Inside, mine, here, invariant-of, refuses, refused-so}
 use Rattle.directory.proofs.Pairs.{log_ring}
 use Rattle.directory.proofs.Working.{same-entry}
 use Rattle.directory.proofs.GoingOn.{none-is-some, same_due}
@@ -106,12 +107,12 @@ module _ (p : Plan) (w : World) (c : ℕ) (in' : Inside p w c) (e : Coordinator)
   abbrev first : Coordinator
   first = get_or w.coordinators c e
 
-  pub send-closed : None ≡ due_in first.work.phase → Does p w w (Err WrongPhase) (Send c)
+  send-closed : None ≡ due_in first.work.phase → Does p w w (Err WrongPhase) (Send c)
   unfolding own
   send-closed none = refuses p w (Send c) in' e WrongPhase (λ s. refusals.send-closed p _ c (not-sending p first.work first.work.phase none))
 
   module _ (kind : Kind) (from : ℕ) (due : Some (kind, from) ≡ due_in first.work.phase) where
-    pub send-nothing : None ≡ first_machine (due_to p first.work kind from) → Does p w w (Err Nothing) (Send c)
+    send-nothing : None ≡ first_machine (due_to p first.work kind from) → Does p w w (Err Nothing) (Send c)
     unfolding own
     send-nothing none = refuses p w (Send c) in' e Nothing
         (λ s. refusals.send-nothing p _ c (is-sending p first.work first.work.phase kind from due)
@@ -158,3 +159,10 @@ module _ (p : Plan) (w : World) (c : ℕ) (in' : Inside p w c) (e : Coordinator)
             sent p then.work c (here p w (Send c) in' d) refl m _ then.work.phase kind from refl (due-then d) rest_then
             ∙ ap (λ (z : Outcome). Ok (leaves m (number_of kind) z left)) (sym is-outcome)
             ∙ ap (λ (z : ℕ). Ok (leaves m z o left)) (sym is-kind))
+
+  -- nothing is sent
+  pub send-refused : (n : Refusal) → IsNext p first.work (Err n) → Does p w w (Err n) (Send c)
+  send-refused n why = ⊎_elim
+      (λ u. refused-so p w (Send c) n WrongPhase u.0 (send-closed u.1))
+      (λ u. refused-so p w (Send c) n Nothing u.0 (send-nothing u.1.0 u.1.1 u.1.2 u.1.3))
+      why

@@ -27,6 +27,10 @@ module _ (p : Plan) (w : World) where
   left_alone : (n : Refusal) → set_up p (is_fitting p w) ≡ Err n → LeftAlone n
   left_alone n e = record { answers = sym e; ready = tt; refused_unchanged = refl; rest = record { coordinators = refl; records = refl; replies = refl } }
 
+  -- the size that stands behind an equation
+  pub sized-so : (after : World) (n m : ℕ) → n ≡ m → SetsUp p w after (Ok m) → SetsUp p w after (Ok n)
+  sized-so after n m e d = subst (λ (z : ℕ). SetsUp p w after (Ok z)) (sym e) d
+
   pub bad-plan : false ≡ is_fine p → LeftAlone BadPlan
   bad-plan e = left_alone BadPlan (stops BadPlan (is_fine p) _ (sym e))
 

@@ -10,6 +10,7 @@ use Rattle.protocol.specs.declared.record.Record.{Record}
 use Rattle.protocol.specs.declared.record.Kind.TheVariants.{Truncate}
 use Rattle.protocol.specs.declared.call.Call.TheVariants.{Trim}
 use Rattle.protocol.specs.declared.call.Outcome.TheVariants.{Going}
+use Rattle.protocol.specs.declared.call.Refusal.{Refusal}
 use Rattle.protocol.specs.declared.call.Refusal.TheVariants.{NoMachine, WrongPhase, NoRoom, Nothing}
 use Rattle.protocol.specs.Record.{Log, records, is_untrimmed}
 use Rattle.protocol.specs.Coordinator as protocol
@@ -28,9 +29,10 @@ use Rattle.directory.specs.declared.tables.Work.{Work}
 use Rattle.directory.specs.declared.tables.Coordinator.{Coordinator}
 use Rattle.directory.specs.View.{World, world, own, phase_of, next_of}
 use Rattle.directory.specs.Slots.{Appended}
+use Rattle.directory.specs.Trims.{MayTrim}
 use Rattle.directory.specs.Sound.{Sound}
 use Rattle.directory.specs.Calls.{Does}
-use Rattle.directory.proofs.Doing.{Inside, mine, here, invariant-of, refuses, refuses-always}
+use Rattle.directory.proofs.Doing.{Inside, mine, here, invariant-of, refuses, refused-so, refuses-always}
 use Rattle.directory.proofs.Pairs.{slots, log_ring, log-here}
 use Rattle.directory.proofs.Working.{not-idle, not-open, as-idle, as-open, same-entry}
 use Rattle.directory.proofs.Rooms.{log-records}
@@ -74,14 +76,14 @@ module _ (p : Plan) (w : World) (c m : ℕ) (in' : Inside p w c) where
           ∙ ap is_untrimmed (sym (log-records r (slots p w c m in' below)))
           ∙ ap (λ (g : Log). is_untrimmed (records g)) (sym (log-here p w c m in' below e s))
 
-      pub trim-nothing : found ≡ false → Does p w w (Err Nothing) (Trim c m)
+      trim-nothing : found ≡ false → Does p w w (Err Nothing) (Trim c m)
       unfolding own
       trim-nothing none = refuses p w (Trim c m) in' e Nothing
           (λ s. refusals.trim-nothing p _ c m below (is-resting p first.work first.work.phase rest) (sym (untrimmed-here s) ∙ none))
 
       module _ (some : found ≡ true) where
         -- on sound tables a log that may be trimmed has a place for the TRUNCATE
-        pub trim-full : room (log_ring p w c m in' below e) p.capacity ≡ false → Does p w w (Err NoRoom) (Trim c m)
+        trim-full : room (log_ring p w c m in' below e) p.capacity ≡ false → Does p w w (Err NoRoom) (Trim c m)
         unfolding own
         trim-full full = refuses p w (Trim c m) in' e NoRoom
             (λ s.
@@ -107,3 +109,11 @@ module _ (p : Plan) (w : World) (c m : ℕ) (in' : Inside p w c) where
             (ap (λ (z : Coordinator). is_untrimmed (records (log (own p w.records w.replies c z) m))) (sym same) ∙ sym (untrimmed-here s) ∙ some))
             ∙ ap (λ (z : ℕ). Ok (leaves z 0 Going (with_own (here p w (Trim c m) in' d) (with_record k m (record_for p c k Truncate m)))))
             (sym (last ∙ ap (λ (z : Coordinator). pred (next_of z.work.next)) same)))
+
+    -- a log that is not trimmed
+    pub trim-refused : Resting first.work.phase → (part : List Record) → part ≡ slots p w c m in' below → (n : Refusal) → MayTrim (log_ring p w c m in' below e) part p.capacity (Err n)
+        → Does p w w (Err n) (Trim c m)
+    trim-refused rest part is-part n why = ⊎_elim
+        (λ u. refused-so p w (Trim c m) n Nothing u.0 (trim-nothing rest part is-part false u.1 refl))
+        (λ u. refused-so p w (Trim c m) n NoRoom u.0 (trim-full rest part is-part true u.1 refl u.2))
+        why

@@ -1,14 +1,16 @@
 -- What a coordinator sends in a phase, and how it goes on from there.
-use Rattle.std.specs.Prelude.{◌≡◌, ℕ, ◌+◌, cond, List, Some, None, Option}
+use Rattle.std.specs.Prelude.{◌≡◌, ◌⊎◌, ℕ, ◌+◌, ◌<◌, cond, List, Some, None, Ok, Err, Option, Result}
 use Rattle.protocol.specs.declared.plan.Plan.{Plan}
 use Rattle.protocol.specs.declared.record.Kind.{Kind}
 use Rattle.protocol.specs.declared.record.Kind.TheVariants.{Lock, CommitBackup, CommitPrimary, Abort}
+use Rattle.protocol.specs.declared.call.Refusal.{Refusal}
+use Rattle.protocol.specs.declared.call.Refusal.TheVariants.{WrongPhase, Nothing}
 use Rattle.protocol.specs.declared.call.Outcome.{Outcome}
 use Rattle.protocol.specs.declared.call.Outcome.TheVariants.{Going, Committed}
 use Rattle.protocol.specs.Coordinator as protocol
 use Rattle.protocol.specs.Coordinator.{new_coordinator, with_words}
 use Rattle.protocol.specs.Commit.{after_backup, after_install, after_abort}
-use Rattle.handling.specs.Sending.{due_from}
+use Rattle.handling.specs.Sending.{due_from, first_machine}
 use Rattle.directory.specs.declared.tables.Phase.{Phase}
 use Rattle.directory.specs.declared.tables.Phase.TheVariants.{Idle, Open, Locking, Checking, Backing, Installing, Aborting}
 use Rattle.directory.specs.declared.tables.Work.{Work}
@@ -24,6 +26,14 @@ due_in (Checking passed) = None
 due_in (Backing due) = Some (CommitBackup, due)
 due_in (Installing due reported) = Some (CommitPrimary, due)
 due_in (Aborting due) = Some (Abort, due)
+
+-- the lowest machine that is still due the phase's record, with its kind; else the phase sends nothing, or no machine is left
+abbrev pub IsNext : Plan → Work → Result (Kind × ℕ) Refusal → Type 0
+IsNext p t (Ok x) =
+    (x.1 < p.machines) × ((from : ℕ) × (Some (x.0, from) ≡ due_in t.phase) × (Some x.1 ≡ first_machine (due_from p x.0 (writes_of t) from)))
+IsNext p t (Err n) =
+    ((n ≡ WrongPhase) × (None ≡ due_in t.phase))
+    ⊎ ((n ≡ Nothing) × ((kind : Kind) × (from : ℕ) × (Some (kind, from) ≡ due_in t.phase) × (None ≡ first_machine (due_from p kind (writes_of t) from))))
 
 -- the first COMMIT-PRIMARY reports the commit
 abbrev pub reports : Phase → Outcome

@@ -4,8 +4,10 @@ pub mod Fresh
 pub mod Checks
 pub mod Calls
 pub mod Work
+pub mod Access
 pub mod Commits
 pub mod Polls
+pub mod Trims
 pub mod Slots
 pub mod Due
 pub mod Progress

@@ -58,9 +58,5 @@ pub fn check<P: Memory, F: Memory, S: Memory>(
         return Err(Refusal::NoAddress);
     };
     let outcome = coordinators[c as usize].work.note_check(count, current);
-    Ok(Answer {
-        first: line.address as u64,
-        second: u64::from(current),
-        outcome,
-    })
+    Ok(Answer::new(line.address as u64, u64::from(current), outcome))
 }

@@ -3,10 +3,11 @@ ghost use Rattle.std.specs.Prelude.{◌≡◌, ◌<◌, length, OnOk};
 ghost use Rattle.std.specs.List.{list_all};
 ghost use Rattle.protocol.specs.Plan.{is_fine, has_fine_sizes, is_fine_home};
 ghost use Rattle.directory.specs.View.{world, is_fitting};
-ghost use Rattle.directory.specs.Checks.{admitted};
+ghost use Rattle.directory.specs.Checks.{admitted, machine_admitted};
 
 use crate::tables::Coordinator;
 use memory::interface::Memory;
+use memory::word::VERSION_END;
 use protocol::call::Refusal;
 use protocol::plan::{Home, Plan};
 use protocol::record::{Record, Reply};
@@ -36,7 +37,7 @@ fn sizes_ok(plan: &Plan) -> bool
         && (1..=4).contains(&plan.coordinators)
         && (1..=8).contains(&plan.regions)
         && (4..=16).contains(&plan.capacity)
-        && plan.start < 1 << 60
+        && plan.start < VERSION_END
 }
 
 pub fn plan_ok(plan: &Plan) -> bool
@@ -63,7 +64,7 @@ pub(crate) fn tables_ok<P: Memory, F: Memory, S: Memory>(
 {
     let count = plan.coordinators as usize;
     let logs = count * plan.machines as usize;
-    let size = 64 * plan.regions as usize;
+    let size = plan.size();
     count <= coordinators.len()
         && logs * plan.capacity as usize <= records.len()
         && logs * 4 <= replies.len()
@@ -103,6 +104,17 @@ pub(crate) fn admit<P: Memory, F: Memory, S: Memory>(
     };
     let true = c < plan.coordinators else {
         return Err(Refusal::NoCoordinator);
+    };
+    Ok(())
+}
+
+// The machine is there: poll, take and trim name one.
+pub(crate) fn admit_machine(plan: &Plan, m: u8) -> Result<(), Refusal>
+    ensures answers { result ≡ machine_admitted plan.now m }
+    ensures within { OnOk result (m < plan.now.machines) }
+{
+    let true = m < plan.machines else {
+        return Err(Refusal::NoMachine);
     };
     Ok(())
 }

@@ -143,9 +143,5 @@ pub fn commit<P: Memory, F: Memory, S: Memory>(
     };
     let outcome = own.work.first_outcome();
     coordinators[c as usize].work.begin_commit(plan, next);
-    Ok(Answer {
-        first: number,
-        second: 0,
-        outcome,
-    })
+    Ok(Answer::new(number, 0, outcome))
 }

@@ -3,17 +3,17 @@ ghost use Rattle.std.specs.Prelude.{◌≡◌, pred, ◌<◌};
 ghost use Rattle.protocol.specs.Record.{note};
 ghost use Rattle.handling.specs.Sending.{due_from, first_machine, OfPlan, InEightRegions, record_of};
 ghost use Rattle.directory.specs.View.{next_of, writes_of};
-ghost use Rattle.directory.specs.Due.{due_in, reports, GoesOn, GoneOn};
+ghost use Rattle.directory.specs.Due.{due_in, IsNext, reports, GoesOn, GoneOn};
 
 use crate::tables::{Phase, Work};
 use handling::records::{next_due, record_for};
-use protocol::call::Outcome;
+use protocol::call::{Outcome, Refusal};
 use protocol::plan::Plan;
 use protocol::record::{Kind, Record};
 
 impl Work {
     // The kind of the records that are sent in this phase, and the first machine that may still be due one.
-    pub(crate) fn due(&self) -> Option<(Kind, u8)>
+    fn due(&self) -> Option<(Kind, u8)>
         ensures { result ≡ due_in self.now.phase }
     {
         match self.phase {
@@ -27,11 +27,24 @@ impl Work {
 
     // The lowest machine from `from` on that a record of that kind is due to.
     #[tactic(auto, using(handling::proofs::Due::found_first))]
-    pub(crate) fn machine_due(&self, plan: &Plan, kind: Kind, from: u8) -> Option<u8>
+    fn machine_due(&self, plan: &Plan, kind: Kind, from: u8) -> Option<u8>
         ensures lowest { result ≡ first_machine (due_from plan.now kind (writes_of self.now) from) }
         ensures within { OfPlan plan.now result }
     {
         next_due(plan, kind, from, self.writes.as_slice())
+    }
+
+    // The kind of the next record and its machine, the lowest that is still due one.
+    pub(crate) fn next_record(&self, plan: &Plan) -> Result<(Kind, u8), Refusal>
+        ensures { IsNext plan.now self.now result }
+    {
+        let Some((kind, from)) = self.due() else {
+            return Err(Refusal::WrongPhase);
+        };
+        let Some(m) = self.machine_due(plan, kind, from) else {
+            return Err(Refusal::Nothing);
+        };
+        Ok((kind, m))
     }
 
     // The last number given: all are where there is no next one.

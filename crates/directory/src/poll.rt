@@ -8,10 +8,10 @@ ghost use Rattle.protocol.specs.Call.{answered};
 ghost use Rattle.protocol.specs.Record.{note, number_of};
 ghost use Rattle.handling.specs.Notes.{notes, polled, NextIs};
 ghost use Rattle.directory.specs.View.{log_of, world};
-ghost use Rattle.directory.specs.Polls.{passed_log, replied};
+ghost use Rattle.directory.specs.Polls.{passed_log, replied, Passes};
 ghost use Rattle.directory.specs.Calls.{Does};
 
-use crate::checks::admit;
+use crate::checks::{admit, admit_machine};
 use crate::slots::{block_of, slots_of};
 use crate::tables::Coordinator;
 use handling::handle::handle;
@@ -49,15 +49,29 @@ fn answer_lock(queue: &mut Ring, slots: &mut [Reply], number: u64, reply: Option
     }
 }
 
+impl Coordinator {
+    // The record found is polled: the log of machine m goes on past it, and what a LOCK is replied to is queued.
+    fn pass(
+        &mut self,
+        m: u8,
+        slots: &[Record],
+        places: &mut [Reply],
+        found: &Record,
+        reply: Option<bool>,
+    )
+        requires { m < 5 }
+        ensures { Passes m self.old self.new slots.now places.old places.new found.now reply }
+    {
+        pass_log(&mut self.logs[m as usize], slots, found.kind);
+        answer_lock(&mut self.queues[m as usize], places, found.number, reply);
+    }
+}
+
 // A poll answers the record's kind and a count, and reports nothing.
 fn polled(kind: Kind, count: u64) -> Answer
     ensures { result ≡ answered (number_of kind) count Going }
 {
-    Answer {
-        first: kind.into(),
-        second: count,
-        outcome: Outcome::Going,
-    }
+    Answer::new(kind.into(), count, Outcome::Going)
 }
 
 // Handles the next unpolled record of the pair, and answers its kind and how many lines it locked, put or freed.
@@ -86,28 +100,18 @@ pub fn poll<P: Memory, F: Memory, S: Memory>(
         seconds,
         c,
     )?;
-    let true = m < plan.machines else {
-        return Err(Refusal::NoMachine);
-    };
-    let j = m as usize;
+    admit_machine(plan, m)?;
     let slots = slots_of(plan, c, m, records, plan.capacity as usize);
     let own = &coordinators[c as usize];
-    let log = Log {
-        ring: &own.logs[j],
-        slots,
-    };
+    let ring = &own.logs[m as usize];
+    let log = Log { ring, slots };
     let Some(found) = log.next() else {
         return Err(Refusal::Nothing);
     };
     let done = handle(plan, c, m, &log, &found, primaries, firsts, seconds);
     let own = &mut coordinators[c as usize];
-    pass_log(&mut own.logs[j], slots, found.kind);
     let block = block_of(plan, c, m);
-    answer_lock(
-        &mut own.queues[j],
-        &mut replies[block * 4..block * 4 + 4],
-        found.number,
-        done.reply,
-    );
+    let places = &mut replies[block * 4..block * 4 + 4];
+    own.pass(m, slots, places, &found, done.reply);
     Ok(polled(found.kind, done.count))
 }

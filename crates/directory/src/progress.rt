@@ -40,13 +40,6 @@ impl Locking {
 }
 
 impl Work {
-    // The word is among those written.
-    pub(crate) fn is_written(&self, address: u16) -> bool
-        ensures { result ≡ is_some (line_at address (writes_of self.now)) }
-    {
-        self.writes.find(address).is_some()
-    }
-
     // The next word to check behind the first `passed` reads, one that was not written, with the number of reads up to it.
     // At most eight words are read, so the numbers do not run out.
     pub(crate) fn next_unwritten(&self, passed: u8) -> Option<(u8, Line)>

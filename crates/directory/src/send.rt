@@ -37,12 +37,7 @@ pub fn send<P: Memory, F: Memory, S: Memory>(
         c,
     )?;
     let own = &coordinators[c as usize];
-    let Some((kind, from)) = own.work.due() else {
-        return Err(Refusal::WrongPhase);
-    };
-    let Some(m) = own.work.machine_due(plan, kind, from) else {
-        return Err(Refusal::Nothing);
-    };
+    let (kind, m) = own.work.next_record(plan)?;
     let block = block_of(plan, c, m);
     let capacity = plan.capacity as usize;
     let log = &own.logs[m as usize];
@@ -54,9 +49,5 @@ pub fn send<P: Memory, F: Memory, S: Memory>(
     let own = &mut coordinators[c as usize];
     append_in(&mut own.logs[m as usize], records, block, capacity, sent);
     let outcome = own.work.go_on(plan, m);
-    Ok(Answer {
-        first: m as u64,
-        second: kind.into(),
-        outcome,
-    })
+    Ok(Answer::new(m as u64, kind.into(), outcome))
 }

@@ -76,5 +76,5 @@ pub fn set_up<P: Memory, F: Memory, S: Memory>(
     reset(seconds, plan.start);
     let count = plan.coordinators as usize;
     coordinators[0..count].fill(fresh(plan.first));
-    Ok(64 * plan.regions as u64)
+    Ok(plan.size() as u64)
 }

@@ -1,5 +1,5 @@
 // The slots of a coordinator's rings in the tables of records and replies.
-ghost use Rattle.std.specs.Prelude.{◌≡◌, ◌+◌, ◌*◌, ◌≤◌, true, length};
+ghost use Rattle.std.specs.Prelude.{◌≡◌, ◌+◌, ◌*◌, ◌<◌, ◌≤◌, true, length};
 ghost use Rattle.ring.specs.Contents.{room};
 ghost use Rattle.ring.specs.Rings.{block};
 ghost use Rattle.directory.specs.Slots.{Appended};
@@ -9,7 +9,8 @@ use ring::Ring;
 
 // The block of a table that has the slots of coordinator c's ring for machine m.
 pub(crate) fn block_of(plan: &Plan, c: u8, m: u8) -> usize
-    ensures { result ≡ c * plan.now.machines + m }
+    ensures block { result ≡ c * plan.now.machines + m }
+    ensures few { result < 65536 }
 {
     c as usize * plan.machines as usize + m as usize
 }

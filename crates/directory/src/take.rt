@@ -3,7 +3,7 @@ ghost use Rattle.protocol.specs.declared.call.Call.TheVariants.{Take};
 ghost use Rattle.directory.specs.View.{world};
 ghost use Rattle.directory.specs.Calls.{Does};
 
-use crate::checks::admit;
+use crate::checks::{admit, admit_machine};
 use crate::slots::slots_of;
 use crate::tables::{Coordinator, Phase};
 use memory::interface::Memory;
@@ -37,24 +37,17 @@ pub fn take<P: Memory, F: Memory, S: Memory>(
         seconds,
         c,
     )?;
-    let true = m < plan.machines else {
-        return Err(Refusal::NoMachine);
-    };
+    admit_machine(plan, m)?;
     let own = &coordinators[c as usize];
     let Phase::Locking(locking) = own.work.phase else {
         return Err(Refusal::WrongPhase);
     };
     let slots = slots_of(plan, c, m, replies, 4);
-    let queue = &own.queues[m as usize];
-    let Some(reply) = queue.peek(slots, 0) else {
+    let Some(reply) = own.queues[m as usize].peek(slots, 0) else {
         return Err(Refusal::Nothing);
     };
     let own = &mut coordinators[c as usize];
     own.queues[m as usize].drop_front(slots, 1);
     let outcome = own.work.note_reply(plan, locking.replied(m, reply.yes));
-    Ok(Answer {
-        first: u64::from(reply.yes),
-        second: 0,
-        outcome,
-    })
+    Ok(Answer::new(u64::from(reply.yes), 0, outcome))
 }

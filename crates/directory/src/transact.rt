@@ -10,9 +10,6 @@ use protocol::call::{Answer, Outcome, Refusal};
 use protocol::plan::Plan;
 use protocol::record::{Line, Record, Reply};
 
-// A word at this version can be read, and not written.
-const LAST_VERSION: u64 = (1 << 60) - 1;
-
 // Starts a transaction of an idle coordinator.
 pub fn open<P: Memory, F: Memory, S: Memory>(
     plan: &Plan,
@@ -43,11 +40,7 @@ pub fn open<P: Memory, F: Memory, S: Memory>(
         return Err(Refusal::WrongPhase);
     };
     coordinators[c as usize].work.begin();
-    Ok(Answer {
-        first: 0,
-        second: 0,
-        outcome: Outcome::Going,
-    })
+    Ok(Answer::new(0, 0, Outcome::Going))
 }
 
 // Answers version and value of a word: as recorded where it was read before, with the value last written, else as the primary memory has it.
@@ -80,33 +73,16 @@ pub fn read<P: Memory, F: Memory, S: Memory>(
     let Phase::Open = own.work.phase else {
         return Err(Refusal::WrongPhase);
     };
-    let true = address < 64 * plan.regions as u16 else {
+    let true = (address as usize) < plan.size() else {
         return Err(Refusal::NoAddress);
     };
     if let Some(line) = own.work.reads.find(address) {
         let value = own.work.value_of(line, address);
-        return Ok(Answer {
-            first: line.version,
-            second: value,
-            outcome: Outcome::Going,
-        });
+        return Ok(Answer::new(line.version, value, Outcome::Going));
     }
-    let true = own.work.reads.len() < 8 else {
-        return Err(Refusal::TooMany);
-    };
-    let Some((version, _, value)) = primaries.look(address as usize) else {
-        return Err(Refusal::NoAddress);
-    };
-    coordinators[c as usize].work.note_read(Line {
-        address,
-        version,
-        value,
-    });
-    Ok(Answer {
-        first: version,
-        second: value,
-        outcome: Outcome::Going,
-    })
+    let line = own.work.look_up(primaries, address)?;
+    coordinators[c as usize].work.note_read(line);
+    Ok(Answer::new(line.version, line.value, Outcome::Going))
 }
 
 // Buffers a value for a word that was read.
@@ -140,32 +116,13 @@ pub fn write<P: Memory, F: Memory, S: Memory>(
     let Phase::Open = own.work.phase else {
         return Err(Refusal::WrongPhase);
     };
-    let true = address < 64 * plan.regions as u16 else {
+    let true = (address as usize) < plan.size() else {
         return Err(Refusal::NoAddress);
     };
-    let Some(line) = own.work.reads.find(address) else {
-        return Err(Refusal::NotRead);
-    };
-    let true = line.version != LAST_VERSION else {
-        return Err(Refusal::UsedUp);
-    };
-    if own.work.is_written(address) {
-        coordinators[c as usize]
-            .work
-            .note_again(line.address, value);
-    } else {
-        let true = own.work.writes.len() < 4 else {
-            return Err(Refusal::TooMany);
-        };
-        coordinators[c as usize]
-            .work
-            .note_write(Line { value, ..line });
-    }
-    Ok(Answer {
-        first: 0,
-        second: 0,
-        outcome: Outcome::Going,
-    })
+    let line = own.work.may_write(address)?;
+    let own = &mut coordinators[c as usize];
+    own.work.note_write(Line { value, ..line });
+    Ok(Answer::new(0, 0, Outcome::Going))
 }
 
 // Gives the transaction up: an abort is reported, and the coordinator is idle.
@@ -198,9 +155,5 @@ pub fn abandon<P: Memory, F: Memory, S: Memory>(
         return Err(Refusal::WrongPhase);
     };
     coordinators[c as usize].work.rest();
-    Ok(Answer {
-        first: 0,
-        second: 0,
-        outcome: Outcome::Aborted,
-    })
+    Ok(Answer::new(0, 0, Outcome::Aborted))
 }

@@ -1,9 +1,10 @@
 // Trimming: a coordinator between two commits asks a machine to truncate its log.
 ghost use Rattle.protocol.specs.declared.call.Call.TheVariants.{Trim};
 ghost use Rattle.directory.specs.View.{world};
+ghost use Rattle.directory.specs.Trims.{MayTrim};
 ghost use Rattle.directory.specs.Calls.{Does};
 
-use crate::checks::admit;
+use crate::checks::{admit, admit_machine};
 use crate::slots::{append_in, block_of, slots_of};
 use crate::tables::{Coordinator, Phase};
 use handling::logs::Log;
@@ -11,6 +12,20 @@ use memory::interface::Memory;
 use protocol::call::{Answer, Outcome, Refusal};
 use protocol::plan::Plan;
 use protocol::record::{Kind, Record, Reply};
+use ring::Ring;
+
+// A log is trimmed where a record has no TRUNCATE behind it. On sound tables there is room: a place is kept for that TRUNCATE.
+fn may_trim(ring: &Ring, slots: &[Record], capacity: usize) -> Result<(), Refusal>
+    ensures { MayTrim ring.now slots.now capacity result }
+{
+    let true = (Log { ring, slots }).is_untrimmed() else {
+        return Err(Refusal::Nothing);
+    };
+    let true = ring.has_room(capacity) else {
+        return Err(Refusal::NoRoom);
+    };
+    Ok(())
+}
 
 // Answers the number that the TRUNCATE carries: the last one given.
 pub fn trim<P: Memory, F: Memory, S: Memory>(
@@ -38,36 +53,18 @@ pub fn trim<P: Memory, F: Memory, S: Memory>(
         seconds,
         c,
     )?;
-    let true = m < plan.machines else {
-        return Err(Refusal::NoMachine);
-    };
+    admit_machine(plan, m)?;
     let own = &coordinators[c as usize];
     let (Phase::Idle | Phase::Open) = own.work.phase else {
         return Err(Refusal::WrongPhase);
     };
     let capacity = plan.capacity as usize;
-    let ring = &own.logs[m as usize];
     let slots = slots_of(plan, c, m, records, capacity);
-    let true = (Log { ring, slots }).is_untrimmed() else {
-        return Err(Refusal::Nothing);
-    };
-    // on sound tables there is room: a place is kept for the TRUNCATE of every log that has records without one
-    let true = ring.has_room(capacity) else {
-        return Err(Refusal::NoRoom);
-    };
+    may_trim(&own.logs[m as usize], slots, capacity)?;
     let number = own.work.last_given();
     let sent = own.work.record_due(plan, c, Kind::Truncate, m);
+    let block = block_of(plan, c, m);
     let own = &mut coordinators[c as usize];
-    append_in(
-        &mut own.logs[m as usize],
-        records,
-        block_of(plan, c, m),
-        capacity,
-        sent,
-    );
-    Ok(Answer {
-        first: number,
-        second: 0,
-        outcome: Outcome::Going,
-    })
+    append_in(&mut own.logs[m as usize], records, block, capacity, sent);
+    Ok(Answer::new(number, 0, Outcome::Going))
 }

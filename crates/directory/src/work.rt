@@ -1,15 +1,22 @@
 // A coordinator's transaction, changed in place.
-ghost use Rattle.std.specs.Prelude.{◌≡◌, ◌<◌, [], length};
+ghost use Rattle.std.specs.Prelude.{◌≡◌, ◌<◌, false, [], length, is_some};
 ghost use Rattle.std.specs.List.{push};
 ghost use Rattle.protocol.specs.Coordinator.{line_at};
-ghost use Rattle.protocol.specs.Transact.{rewrite, value_of};
+ghost use Rattle.protocol.specs.Transact.{value_of};
 ghost use Rattle.directory.specs.declared.tables.Phase.TheVariants.{Idle, Open};
 ghost use Rattle.directory.specs.View.{reads_of, writes_of};
+ghost use Rattle.directory.specs.Access.{LooksUp, MayWrite, buffered};
 ghost use Rattle.directory.specs.Work.{Leaves};
 
 use crate::tables::{Phase, Work};
+use memory::interface::Memory;
+use memory::word::VERSION_END;
+use protocol::call::Refusal;
 use protocol::lines::LineVec;
 use protocol::record::Line;
+
+// A word at this version can be read, and not written.
+const LAST_VERSION: u64 = VERSION_END - 1;
 
 impl Work {
     // The value of a word that was read: the one last written, else the one read.
@@ -37,6 +44,23 @@ impl Work {
         self.phase = Phase::Idle;
     }
 
+    // The line of a word that was not read before, as the memory has it.
+    pub(crate) fn look_up<M: Memory>(&self, memory: &M, address: u16) -> Result<Line, Refusal>
+        ensures { LooksUp (reads_of self.now) (M.Memory.words memory.now) address result }
+    {
+        let true = self.reads.len() < 8 else {
+            return Err(Refusal::TooMany);
+        };
+        let Some((version, _, value)) = memory.look(address as usize) else {
+            return Err(Refusal::NoAddress);
+        };
+        Ok(Line {
+            address,
+            version,
+            value,
+        })
+    }
+
     // One more word is read.
     pub(crate) fn note_read(&mut self, line: Line)
         requires { length (reads_of self.old) < 8 }
@@ -45,18 +69,39 @@ impl Work {
         self.reads.push(line);
     }
 
-    // One more word is written.
-    pub(crate) fn note_write(&mut self, line: Line)
-        requires { length (writes_of self.old) < 4 }
-        ensures { Leaves self.new self.old.phase self.old.next (reads_of self.old) (push (writes_of self.old) line) }
+    // The word is among those written.
+    pub(crate) fn is_written(&self, address: u16) -> bool
+        ensures { result ≡ is_some (line_at address (writes_of self.now)) }
     {
-        self.writes.push(line);
+        self.writes.find(address).is_some()
     }
 
-    // A word written before takes another value.
-    pub(crate) fn note_again(&mut self, address: u16, value: u64)
-        ensures { Leaves self.new self.old.phase self.old.next (reads_of self.old) (rewrite (writes_of self.old) address value) }
+    // The line of a word that was read, if it may be written.
+    pub(crate) fn may_write(&self, address: u16) -> Result<Line, Refusal>
+        ensures { MayWrite (reads_of self.now) (writes_of self.now) address result }
     {
-        self.writes.rewrite(address, value);
+        let Some(line) = self.reads.find(address) else {
+            return Err(Refusal::NotRead);
+        };
+        let true = line.version != LAST_VERSION else {
+            return Err(Refusal::UsedUp);
+        };
+        let fits = self.is_written(address) || self.writes.len() < 4;
+        let true = fits else {
+            return Err(Refusal::TooMany);
+        };
+        Ok(line)
+    }
+
+    // A word is written: again, or as one more.
+    pub(crate) fn note_write(&mut self, line: Line)
+        requires { is_some (line_at line.address (writes_of self.old)) ≡ false → length (writes_of self.old) < 4 }
+        ensures { Leaves self.new self.old.phase self.old.next (reads_of self.old) (buffered (writes_of self.old) line) }
+    {
+        if self.is_written(line.address) {
+            self.writes.rewrite(line.address, line.value);
+        } else {
+            self.writes.push(line);
+        }
     }
 }

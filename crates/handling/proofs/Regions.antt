@@ -1,15 +1,18 @@
 -- The regions of lines: where a byte has bits for all of them, and a loop that collects them.
-use Rattle.std.proofs.Common.{◌≡◌, ℕ, zero, suc, ◌+◌, ◌/◌, ◌%◌, ◌^◌, ◌<◌, ◌≤◌, List, length, get_or, drop, sym, refl, ap, ◌∙◌, mod-lt, div-add-mod', arith}
+use Rattle.std.proofs.Common.{◌≡◌, ℕ, zero, suc, ◌+◌, ◌/◌, ◌%◌, ◌^◌, ◌<◌, ◌≤◌, Bool, true, false, ◌||◌, eqb, max, List, [], ◌∷◌, length, get_or, drop, sym, refl, ap, ◌∙◌, inl, inr, mod-lt, div-add-mod', arith}
 use lib.Arith.{bin_ind}
 use lib.Bits.{bit_or, or_shr, or_mod, or_zero_r}
-use Rattle.std.specs.List.{AllByRecursion}
+use Rattle.std.specs.List.{AllByRecursion, list_any}
+use Rattle.std.specs.Int.{bit_at}
+use Rattle.std.proofs.lemmas.Bool.Decides.{eqb_tells}
+use Rattle.std.proofs.lemmas.Nat.Bits.{bit_at_or, bit_at-zero, bit_at-pow_same, bit_at-pow_other}
 use Rattle.std.proofs.lemmas.List.{at_drop_more, at_drop_all}
 use Rattle.std.proofs.ByRecursion.{All-get_or, All-weaker}
 use Rattle.protocol.specs.declared.plan.Plan.{Plan}
 use Rattle.protocol.specs.declared.record.Line.{Line}
-use Rattle.protocol.specs.Room.{regions_byte}
+use Rattle.protocol.specs.Room.{regions_byte, one_if}
 use Rattle.protocol.specs.Kept.{Fits}
-use Rattle.handling.specs.Sending.{InEightRegions}
+use Rattle.handling.specs.Sending.{InEightRegions, SetsRegions}
 
 by_digits : (a b : ℕ) → a / 2 ≡ b / 2 → a % 2 ≡ b % 2 → a ≡ b
 by_digits a b high low = omega (arith, div-add-mod' a 2, div-add-mod' b 2)
@@ -48,3 +51,26 @@ module _ (ls : List Line) (i byte : ℕ) (so_far : bit_or byte (regions_byte (dr
 
   pub regions-all : length ls ≤ i → byte ≡ regions_byte ls
   regions-all l = sym (or_zero_r byte) ∙ ap (bit_or byte) (sym (at_drop_all regions_byte ls i l)) ∙ so_far
+
+one-bit : (k r : ℕ) → bit_at (2 ^ k) r ≡ one_if (eqb k r)
+one-bit k r =
+    elim (eqb_tells k r) [
+      | inl yes' ↦ ap (bit_at (2 ^ k)) (sym yes'.1) ∙ bit_at-pow_same k ∙ ap one_if (sym yes'.0)
+      | inr no' ↦ bit_at-pow_other k r (λ e. no'.1 (sym e)) ∙ ap one_if (sym no'.0)
+    ]
+
+either-bit : (a b : Bool) → max (one_if a) (one_if b) ≡ one_if (a || b)
+either-bit true true = refl
+either-bit true false = refl
+either-bit false true = refl
+either-bit false false = refl
+
+-- the byte of the regions has the bit of each
+pub sets-regions : (ls : List Line) → SetsRegions ls (regions_byte ls)
+sets-regions [] r = bit_at-zero r
+sets-regions (l ∷ ls) r =
+    let k = l.address / 64 in
+    bit_at_or (2 ^ k) (regions_byte ls) r
+    ∙ ap (λ (x : ℕ). max x (bit_at (regions_byte ls) r)) (one-bit k r)
+    ∙ ap (max (one_if (eqb k r))) (sets-regions ls r)
+    ∙ either-bit (eqb k r) (list_any (λ (j : Line). eqb (j.address / 64) r) ls)

@@ -1,5 +1,5 @@
 -- A truncation, record by record.
-use Rattle.std.proofs.Common.{◌≡◌, ℕ, ◌+◌, ◌<◌, ◌≤◌, Bool, true, false, cond, List, [], ◌∷◌, length, take, drop, sym, refl, ap, ◌∙◌, subst, arith, length-set, get_or, map, min}
+use Rattle.std.proofs.Common.{◌≡◌, ℕ, ◌+◌, ◌*◌, ◌<◌, ◌≤◌, Bool, true, false, cond, List, [], ◌∷◌, length, take, drop, reverse, sym, refl, ap, ◌∙◌, subst, arith, length-set, get_or, map, min}
 use Rattle.std.specs.List.{AllByRecursion}
 use Rattle.std.proofs.ByRecursion.{All-get_or, All-take}
 use Rattle.std.proofs.lemmas.List.{length-take, drop_more, take-map}
@@ -17,7 +17,7 @@ use Rattle.protocol.specs.Poll.{backup_part, back_up_lines, back_up_records}
 use Rattle.protocol.specs.Kept.{Lines}
 use Rattle.handling.specs.Fitting.{Fit}
 use Rattle.handling.specs.Notes.{notes}
-use Rattle.handling.specs.Handling.{BacksUp, BackedUp, SoundLog}
+use Rattle.handling.specs.Handling.{BacksUp, SoundLog}
 use Rattle.handling.proofs.Newest.{turned_more}
 use Rattle.handling.proofs.Peeks.{length-notes}
 
@@ -75,6 +75,13 @@ At ns i x = (i < length ns) × (x ≡ get_or ns i x)
 
 here-at : (ns : List Note) (i : ℕ) (x : Note) → At ns i x → drop i ns ≡ x ∷ drop (i + 1) ns
 here-at ns i x at = drop_more ns i x at.0 ∙ ap (λ (y : Note). y ∷ drop (i + 1) ns) (sym at.1)
+
+-- the backups after the records in front of place i, and the puts so far
+pub record BackedUp (p : Plan) (m i : ℕ) (ns : List Note) (f s f' s' : Words) (puts : ℕ) : Type 0 where
+  pub few : puts ≤ 4 * i
+  pub firsts : length f' ≡ length f
+  pub seconds : length s' ≡ length s
+  pub after : backups puts f' s' ≡ back_up_records p m (reverse (take i ns)) (backups 0 f s)
 
 module _ (p : Plan) (m i : ℕ) (log : Ring) (slots : List Record) (f s : Words) where
   -- the memories have the plan's words, and the log is sound

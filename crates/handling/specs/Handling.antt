@@ -1,5 +1,5 @@
 -- What a machine does with the record that it polls, and when that is what the protocol says.
-use Rattle.std.specs.Prelude.{◌≡◌, ℕ, suc, ◌+◌, ◌*◌, ◌<◌, ◌≤◌, Bool, true, false, cond, List, [], reverse, length, take, Some, None, Option}
+use Rattle.std.specs.Prelude.{◌≡◌, ℕ, suc, ◌+◌, ◌<◌, ◌≤◌, Bool, true, false, cond, List, [], length, Some, None, Option}
 use Rattle.std.specs.List.{AllByRecursion, list_all}
 use Rattle.ring.specs.declared.Ring.{Ring}
 use Rattle.ring.specs.Contents.{Sound}
@@ -63,10 +63,3 @@ pub record Ready (p : Plan) (log : Ring) (slots : List Record) (a b d : Words) :
   pub primaries : length a ≡ size p
   pub firsts : length b ≡ size p
   pub seconds : length d ≡ size p
-
--- the backups after the records in front of place i, and the puts so far
-pub record BackedUp (p : Plan) (m i : ℕ) (ns : List Note) (f s f' s' : Words) (puts : ℕ) : Type 0 where
-  pub few : puts ≤ 4 * i
-  pub firsts : length f' ≡ length f
-  pub seconds : length s' ≡ length s
-  pub after : backups puts f' s' ≡ back_up_records p m (reverse (take i ns)) (backups 0 f s)

@@ -1,5 +1,6 @@
 -- What a commit writes into the logs: to which machines, how many records, and what each says.
-use Rattle.std.specs.Prelude.{ℕ, ◌+◌, ◌-◌, ◌<◌, Bool, false, List, [], ◌∷◌, Some, None, Option, ◌==◌}
+use Rattle.std.specs.Prelude.{◌≡◌, ℕ, ◌+◌, ◌-◌, ◌/◌, ◌<◌, Bool, false, List, [], ◌∷◌, Some, None, Option, ◌==◌}
+use Rattle.std.specs.Int.{bit_at}
 use Rattle.std.specs.List.{AllByRecursion, filter, list_any}
 use Rattle.protocol.specs.declared.plan.Plan.{Plan}
 use Rattle.protocol.specs.declared.record.Line.{Line}
@@ -59,6 +60,10 @@ picked p Truncate m ws = []
 -- a byte has bits for eight regions of 64 addresses
 abbrev pub InEightRegions : List Line → Type 0
 InEightRegions ws = AllByRecursion (λ l. l.address < 512) ws
+
+-- bit r of the byte is 1 where a line is in region r, and else 0
+abbrev pub SetsRegions : List Line → ℕ → Type 0
+SetsRegions ws byte = (r : ℕ) → bit_at byte r ≡ one_if (list_any (λ l. l.address / 64 == r) ws)
 
 -- the regions that a record of that kind names: LOCK and COMMIT-BACKUP alone name those written
 abbrev pub regions_in : Kind → List Line → ℕ

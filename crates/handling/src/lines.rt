@@ -43,15 +43,13 @@ pub fn lock_lines<M: Memory>(memory: &mut M, lines: &[Line], holder: u8) -> bool
     true
 }
 
-// Puts the line's value at the version after the one read.
+// Puts the line's value at the version after the one read; past the last version the memory answers no.
 fn install_line<M: Memory>(memory: &mut M, line: &Line) -> bool
     ensures answers { result ≡ is_fit (length (M.words memory.old)) line.now }
     ensures after { M.words memory.new ≡ (if result then put (M.words memory.old) line.now.address (line.now.version + 1) line.now.value else M.words memory.old) }
 {
-    if line.version >= (1 << 60) - 1 {
-        return false;
-    }
-    memory.put(line.address as usize, line.version + 1, line.value)
+    let next = line.version.saturating_add(1);
+    memory.put(line.address as usize, next, line.value)
 }
 
 // Installs each line, and counts them.

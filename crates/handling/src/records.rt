@@ -6,7 +6,7 @@ ghost use Rattle.std.specs.List.{find, range_with_len};
 ghost use Rattle.protocol.specs.LineVec.{listed};
 ghost use Rattle.protocol.specs.Record.{note};
 ghost use Rattle.protocol.specs.Room.{regions_byte};
-ghost use Rattle.handling.specs.Sending.{is_due, OfPlan, picked, InEightRegions, regions_in, record_of};
+ghost use Rattle.handling.specs.Sending.{is_due, OfPlan, picked, InEightRegions, SetsRegions, regions_in, record_of};
 
 use crate::room::{at_backup, at_primary, picks};
 use protocol::lines::LineVec;
@@ -48,7 +48,8 @@ fn region_bit(address: u16) -> u8
 
 // The byte with bit r set for each region r that the lines are in.
 pub fn regions_of(lines: &[Line]) -> u8
-    ensures { InEightRegions lines.now → result ≡ regions_byte lines.now }
+    ensures is { InEightRegions lines.now → result ≡ regions_byte lines.now }
+    ensures bits { InEightRegions lines.now → SetsRegions lines.now result }
 {
     let mut byte = 0;
     for line in lines {

@@ -1,6 +1,7 @@
 // Memories of versioned words: one contract, three makes, and what holds of every make.
 #![tactic(auto)]
 
+pub mod blank;
 pub mod cells;
 pub mod interface;
 pub mod joined;

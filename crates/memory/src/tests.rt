@@ -1,3 +1,4 @@
+use crate::blank::Blank;
 use crate::cells::Cells;
 use crate::interface::Memory;
 use crate::joined::Joined;
@@ -45,6 +46,21 @@ fn each_make_follows_rules(rt: HostRuntime) -> Result<(), Fail> {
         return Err(Fail::new("not joined"));
     };
     follows_rules(&rt, rt.alloc(), &mut joined)
+}
+
+fn blank_follows_rules<M: Blank>(rt: &impl Abort, heap: Global) -> Result<(), Fail> {
+    assert!(rt; M::fits(3));
+    follows_rules(rt, heap, &mut M::blank(heap, 3)?)
+}
+
+#[test]
+fn each_make_is_made_blank(rt: HostRuntime) -> Result<(), Fail> {
+    blank_follows_rules::<Cells>(&rt, rt.alloc())?;
+    blank_follows_rules::<Packed>(&rt, rt.alloc())?;
+    blank_follows_rules::<Joined<Cells, Packed>>(&rt, rt.alloc())?;
+    assert!(rt; Joined::<Cells, Packed>::blank(rt.alloc(), 1).is_err());
+    assert!(rt; !Joined::<Cells, Joined<Cells, Packed>>::fits(2));
+    Ok(())
 }
 
 #[test]

@@ -5,6 +5,7 @@ ghost use Rattle.playback.specs.Rows.{Shows, text};
 
 use protocol::call::{Answer, Call, Refusal};
 use std::fmt;
+use steps::kind::EntryKind;
 
 // An answer as it is printed: the refusal's number or 0, two numbers, and the outcome's number. They are what is printed; a
 // program that goes on with an answer has its `Result`.
@@ -52,16 +53,5 @@ impl fmt::Display for Row {
 pub fn name(call: Call) -> &'static str
     ensures { result.now ≡ name_of call }
 {
-    match call {
-        Call::Open(_) => "open",
-        Call::Read(_, _) => "read",
-        Call::Write(_, _, _) => "write",
-        Call::Abandon(_) => "abandon",
-        Call::Commit(_) => "commit",
-        Call::Send(_) => "send",
-        Call::Poll(_, _) => "poll",
-        Call::Take(_, _) => "take",
-        Call::Check(_) => "check",
-        Call::Trim(_, _) => "trim",
-    }
+    EntryKind::from(call).name()
 }

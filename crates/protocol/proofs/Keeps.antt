@@ -1,5 +1,5 @@
 -- Every call keeps the invariant, and set-up establishes it.
-use Rattle.std.proofs.Common.{◌≡◌, ℕ, ◌^◌, ◌<◌, true, List, replicate, sym, refl, subst, ⊎_elim, arith}
+use Rattle.std.proofs.Common.{◌≡◌, ℕ, ◌^◌, ◌<◌, true, replicate, sym, refl, subst, ⊎_elim, arith}
 use Rattle.std.proofs.lemmas.List.{length-replicate, get_or-replicate, get_or_past}
 use Rattle.std.proofs.lemmas.Bool.{and_parts, cases_lt, ltb-true}
 use Rattle.memory.specs.declared.word.Word.{Word}
@@ -11,10 +11,9 @@ use Rattle.protocol.specs.Plan.{is_fine, size}
 use Rattle.protocol.specs.Coordinator.{Coordinator, new_coordinator}
 use Rattle.protocol.specs.State.{State, Local, start_words, local_at, with_local}
 use Rattle.protocol.specs.Call.{Accepted, coordinator_of}
-use Rattle.protocol.specs.Step.{settle, step, Run, run}
+use Rattle.protocol.specs.Step.{settle, step}
 use Rattle.protocol.specs.Kept.{Invariant, Invariants, ProperWords, KeptByCalls, Always}
 use Rattle.protocol.proofs.Functions.{upd-each}
-use Rattle.protocol.proofs.Runs.{along}
 use Rattle.protocol.proofs.Holds.{Holds, refused, accepted, past, holds-map}
 use Rattle.protocol.proofs.Moves.{Move, moves, move-of}
 use Rattle.protocol.proofs.Rooms.{room-kept}
@@ -101,7 +100,3 @@ always = record {
   first = λ p f. record { coordinators = λ c. new-invariant p; primaries = start-proper p f; firsts = start-proper p f; seconds = start-proper p f };
   after = λ p s call inv. step_keeps p s inv call;
 }
-
--- every run of calls after set-up leaves the invariants
-pub run-keeps : (p : Plan) → is_fine p ≡ true → (calls : List Call) → Invariants p (run p calls).state
-run-keeps p f calls = along (λ (r : Run). Invariants p r.state) p (λ r call inv. step_keeps p r.state inv call) _ calls (always.first p f)

@@ -1,6 +1,5 @@
 pub mod Facts
 pub mod Holds
-pub mod Runs
 pub mod Moves
 pub mod Functions
 pub mod Members
@@ -15,7 +14,5 @@ pub mod Checks
 pub mod Accepts
 pub mod Refusals
 pub mod Places
-pub mod Puts
-pub mod Tests
 pub mod Transacts
 pub mod Counting

@@ -21,7 +21,7 @@ use Rattle.protocol.specs.State.{Local, with_own, in_phase, with_primaries, with
 use Rattle.protocol.specs.Call.{Accepted, answered}
 use Rattle.protocol.specs.Transact.{read_word, write_word, value_of, seen, with_read, with_writes, rewrite}
 use Rattle.protocol.specs.Commit.{begin, first_outcome, record_for, last_given, after_backup, after_install, after_abort, after_checks, after_failed, read_only, send_in, take_in, take_reply, taken, check_in, checked, last_passed}
-use Rattle.protocol.specs.Poll.{own_lines, truncated, dropped, pass_over, polled_over, reply, with_reply, poll_lock, poll_record, poll_next, poll_call}
+use Rattle.protocol.specs.Poll.{own_lines, truncated, dropped, pass_over, polled_over, reply, with_reply, poll_lock, poll_record, poll_next}
 use Rattle.protocol.specs.Step.{local_call}
 use Rattle.protocol.proofs.Holds.{Holds, refused, accepted, past, found, holds_of}
 
@@ -259,8 +259,3 @@ module _ (p : Plan) (x : Local) where
   -- what an accepted call did
   pub move-of : (call : Call) (a : Accepted) → local_call p x call ≡ Ok a → Move p x call a
   move-of call a e = holds_of (moves call) e
-
-  -- an accepted poll is one of the six moves of a poll
-  pub poll-move : (c m : ℕ) (a : Accepted) → poll_call p c x m ≡ Ok a → Move p x (Poll c m) a
-  unfolding local_call
-  poll-move c m a e = move-of (Poll c m) a e

@@ -1,23 +1,17 @@
 -- What the invariant gives to the calls: a place for each record and reply that is written, and lines whose words are there.
-use Rattle.std.proofs.Common.{◌≡◌, ℕ, ◌+◌, ◌/◌, ◌<◌, ◌≤◌, Bool, true, false, cond, not, ◌||◌, eqb, List, [], ◌∷◌, length, refl, ap, subst, arith}
-use Rattle.std.specs.List.{AllByRecursion, filter}
-use Rattle.std.proofs.lemmas.List.{nil_from_length}
-use Rattle.std.proofs.ByRecursion.{All-weaker}
+use Rattle.std.proofs.Common.{◌≡◌, ℕ, ◌+◌, ◌<◌, ◌≤◌, true, not, ◌||◌, eqb, List, [], ◌∷◌, length, refl, ap, subst, arith}
+use Rattle.std.specs.List.{AllByRecursion}
 use Rattle.std.proofs.lemmas.Bool.{or_right}
 use Rattle.protocol.specs.declared.plan.Plan.{Plan}
 use Rattle.protocol.specs.declared.record.Line.{Line}
-use Rattle.protocol.specs.declared.record.Kind.{Kind}
-use Rattle.protocol.specs.declared.record.Kind.TheVariants.{Lock, CommitBackup, CommitPrimary, Abort, Truncate}
-use Rattle.protocol.specs.declared.record.Reply.{Reply}
 use Rattle.protocol.specs.Lists.{is_member}
-use Rattle.protocol.specs.Record.{Note, records, kind_eq, is_untrimmed}
+use Rattle.protocol.specs.Record.{Note, records, is_untrimmed}
 use Rattle.protocol.specs.Coordinator.{Coordinator, Phase, Idle, Opened, Locking, Checking, Backing, Installing, Aborting, log, queue}
-use Rattle.protocol.specs.Room.{one_if, to_write, primary_lines, backup_lines, primary_machines, backup_machines, is_at_primary, is_at_backup}
-use Rattle.protocol.specs.Commit.{first_phase, record_for}
-use Rattle.protocol.specs.Kept.{Invariant, Rising, Fits, Lines, machines_due, replies_awaited, to_reply}
+use Rattle.protocol.specs.Room.{one_if, to_write, primary_machines, backup_machines, is_at_primary, is_at_backup}
+use Rattle.protocol.specs.Commit.{first_phase}
+use Rattle.protocol.specs.Kept.{Invariant, Rising, Lines, machines_due, replies_awaited}
 use Rattle.protocol.proofs.Members.{member-first, member-counted}
 use Rattle.protocol.proofs.Rooms.{cost-due, one_at_most}
-use Rattle.protocol.proofs.Replies.{to_reply-first}
 
 none-due : {P : Type 0} {m : ℕ} {ms : List ℕ} → ◌≡◌ {A = List ℕ} [] (m ∷ ms) → P
 none-due {P} {m} {ms} e = let z : ◌≡◌ {A = ℕ} 0 1 = cc in absurd (omega arith)
@@ -41,14 +35,6 @@ at_most_one (Backing due) m = omega arith
 at_most_one (Installing reported due) m = omega arith
 at_most_one (Aborting due) m = omega arith
 
-length-if : {X : Type 0} (b : Bool) (x : X) (xs : List X) (n : ℕ) → length xs ≤ n → length (cond b (x ∷ xs) xs) ≤ n + 1
-length-if true x xs n l = omega arith
-length-if false x xs n l = omega arith
-
-pub length-filter : {X : Type 0} (test : X → Bool) (xs : List X) → length (filter test xs) ≤ length xs
-length-filter test [] = omega arith
-length-filter test (x ∷ xs) = omega (arith, length-if (test x) x (filter test xs) (length xs) (length-filter test xs))
-
 module _ (p : Plan) (k : Coordinator) (inv : Invariant p k) where
   -- a machine that is due a record is there,
   pub due-machine : (m : ℕ) (ms : List ℕ) → machines_due k.phase ≡ m ∷ ms → m < p.machines
@@ -69,43 +55,14 @@ module _ (p : Plan) (k : Coordinator) (inv : Invariant p k) where
         let one : one_if (not (eqb n 0) || is_untrimmed (records (log k m))) ≡ 1 = ap one_if (or_right (not (eqb n 0)) (is_untrimmed (records (log k m))) u) in
         omega (arith, inv.room m there)
 
-    -- a log has no more records than places
-    pub log-fits : length (records (log k m)) ≤ p.capacity
-    log-fits = omega (arith, inv.room m there)
-
     -- there is one reply at most
     pub one-reply : length (queue k m) ≤ 1
     one-reply = omega (arith, inv.replies m there, at_most_one k.phase m)
 
-    -- so the one that is taken was the only one
-    pub only-reply : (r : Reply) (rs : List Reply) → queue k m ≡ r ∷ rs → rs ≡ []
-    only-reply r rs e = nil_from_length rs (omega (arith, one-reply, ap length e))
-
     module _ (r : Note) (rest : List Note) (next : (log k m).waiting ≡ r ∷ rest) where
-      -- and a LOCK is polled only where there is none
-      pub lock-queue : r.kind ≡ Lock → queue k m ≡ []
-      lock-queue e =
-          let was : length (to_reply (log k m).waiting) ≡ length (to_reply (r ∷ rest)) = ap (λ (ns : List Note). length (to_reply ns)) next in
-          let one : one_if (kind_eq r.kind Lock) ≡ 1 = ap (λ (j : Kind). one_if (kind_eq j Lock)) e in
-          nil_from_length (queue k m) (omega (arith, inv.replies m there, at_most_one k.phase m, to_reply-first r rest))
-
       -- the lines of the record that is polled next
       pub next-lines : Lines p r.lines
       next-lines = let all : AllByRecursion (λ (s : Note). Lines p s.lines) (r ∷ rest) = subst (AllByRecursion (λ (s : Note). Lines p s.lines)) next (inv.waiting m there) in all.0
-
-  -- the regions of the written words are there
-  pub written-regions : AllByRecursion (λ (w : Line). w.address / 64 < p.regions) k.writes
-  written-regions = All-weaker (Fits p) (λ (w : Line). w.address / 64 < p.regions) (λ w h. omega arith) k.writes inv.writes_fit.fit
-
-  -- a record has four lines at most
-  pub few-lines : (c : ℕ) (kind : Kind) (m : ℕ) → length (record_for p c k kind m).lines ≤ 4
-  few-lines c Lock m =
-      let part : length (primary_lines p k.writes m) ≤ length k.writes = length-filter _ k.writes in omega (arith, inv.writes_few)
-  few-lines c CommitBackup m =
-      let part : length (backup_lines p k.writes m) ≤ length k.writes = length-filter _ k.writes in omega (arith, inv.writes_few)
-  few-lines c CommitPrimary m = omega arith
-  few-lines c Abort m = omega arith
-  few-lines c Truncate m = omega arith
 
 -- What a commit that begins has yet to write into the log of machine m: LOCK, COMMIT-BACKUP, and COMMIT-PRIMARY or ABORT.
 module _ (p : Plan) (m : ℕ) (there : m < p.machines) where

@@ -1,4 +1,6 @@
 // The ten calls and what they answer.
+ghost use Rattle.std.specs.Prelude.{◌≡◌};
+ghost use Rattle.protocol.specs.Call.{answered};
 
 // A coordinator first, then a machine or an address, then a value.
 #[derive(Clone, Copy, Debug, PartialEq, Eq)]
@@ -30,6 +32,18 @@ pub struct Answer {
     pub first: u64,
     pub second: u64,
     pub outcome: Outcome,
+}
+
+impl Answer {
+    pub fn new(first: u64, second: u64, outcome: Outcome) -> Answer
+        ensures { result ≡ answered first second outcome }
+    {
+        Answer {
+            first,
+            second,
+            outcome,
+        }
+    }
 }
 
 // Why a call was turned back.

@@ -1,15 +1,11 @@
 ghost use Rattle.protocol.specs.Kept.{KeptByCalls, Always};
 
 // Every accepted call keeps the invariant of the coordinator that makes it.
-pub fn calls_keep_the_invariant() -> u8
+pub fn calls_keep_the_invariant()
     ensures { KeptByCalls }
-{
-    0
-}
+{}
 
 // Set-up establishes the invariants of the whole state, and every call, accepted or refused, keeps them.
-pub fn invariants_always_hold() -> u8
+pub fn invariants_always_hold()
     ensures { Always }
-{
-    0
-}
+{}

@@ -1,6 +1,8 @@
 // The plan of a directory: how many machines, coordinators and regions there are, and where each region's copies stand.
 ghost use Rattle.std.specs.Prelude.{◌≡◌, length};
 
+mod size;
+
 // The machines with a region's primary, first and second backup copy.
 #[derive(Clone, Copy, Debug, Default, PartialEq, Eq)]
 pub struct Home {
@@ -22,5 +24,5 @@ pub struct Plan {
     pub first: u64,
     pub homes: [Home; 8],
     // an array behind a reference does not bring its length
-    ghost eight: { length homes ≡ 8 },
+    pub ghost eight: { length homes ≡ 8 },
 }

@@ -1,3 +1,4 @@
 mod Fitting
 mod Lending
+mod Resting
 mod Running

@@ -4,4 +4,5 @@
 pub mod calls;
 pub mod make;
 pub mod owner;
+pub mod readers;
 pub mod run;

@@ -1,4 +1,6 @@
 // What a directory owns.
+ghost use Rattle.std.specs.Prelude.{◌≡◌, ◌*◌, length};
+
 use directory::tables::Coordinator;
 use protocol::plan::Plan;
 use protocol::record::{Record, Reply};
@@ -18,4 +20,7 @@ pub struct Directory<P, F, S> {
     pub(crate) primaries: P,
     pub(crate) firsts: F,
     pub(crate) seconds: S,
+    ghost coordinators_fit: { length tables.coordinators.items ≡ plan.coordinators },
+    ghost records_fit: { length tables.records.items ≡ plan.coordinators * plan.machines * plan.capacity },
+    ghost replies_fit: { length tables.replies.items ≡ plan.coordinators * plan.machines * 4 },
 }

@@ -14,7 +14,7 @@ use Rattle.steps.proofs.Cutting.{passed-whole, listed-whole, nothing-behind, ope
 
 -- an entry that was written behind `pre`
 module _ (pre e rest : List ℕ) (short : length e < 65536) where
-  abbrev behind : Position
+  abbrev pub behind : Position
   behind = at (pre ++ (with_length e ++ rest)) (length pre)
 
   size-there : two_at (pre ++ (with_length e ++ rest)) (length pre) ≡ length e
@@ -26,15 +26,15 @@ module _ (pre e rest : List ℕ) (short : length e < 65536) where
       ∙ ap (λ l. from_be_bytes w16 (length e / 256 % 256 ∷ l ∷ [])) low
       ∙ from_be_bytes-to_be_bytes_2 (length e) short
 
-  end-there : end_of behind ≡ length (pre ++ with_length e)
+  pub end-there : end_of behind ≡ length (pre ++ with_length e)
   end-there = omega (arith, size-there, length-append pre (with_length e))
 
-  whole-there : is_whole behind ≡ true
+  pub whole-there : is_whole behind ≡ true
   whole-there =
       le-leb (end_of behind) (length (pre ++ (with_length e ++ rest)))
       (omega (arith, end-there, length-append pre (with_length e), length-append pre (with_length e ++ rest), length-append (with_length e) rest))
 
-  content-there : (entry behind).content ≡ e
+  pub content-there : (entry behind).content ≡ e
   content-there =
       ap (λ n. take n (drop (length pre + 2) (pre ++ (with_length e ++ rest)))) size-there
       ∙ ap (take (length e)) (drop-append-add pre (with_length e ++ rest) 2)

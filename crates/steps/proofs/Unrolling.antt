@@ -6,7 +6,7 @@ use Rattle.steps.specs.Frames.{Position, at, end_of}
 use Rattle.steps.proofs.Cutting.{nothing-behind}
 use Rattle.steps.specs.Sequence.{step_of, step_at, moved, and_then, sequence, steps_from}
 
-none-behind : (n : ℕ) (p : Position) → length p.file ≤ p.place → sequence n p ≡ []
+pub none-behind : (n : ℕ) (p : Position) → length p.file ≤ p.place → sequence n p ≡ []
 unfolding sequence
 none-behind zero p h = refl
 none-behind (suc n) p h = ap (λ o. and_then (step_of o) (sequence n (moved p (step_of o)))) (nothing-behind p h)

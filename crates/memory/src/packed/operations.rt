@@ -1,6 +1,6 @@
 ghost use Rattle.std.specs.Prelude.{◌≡◌, ◌/◌, ◌<◌, length, vec_len, slice_set};
 ghost use Rattle.memory.specs.Make.{sizeable, packable, Making, Taking};
-ghost use Rattle.memory.specs.Meanings.{packed_words};
+ghost use Rattle.memory.specs.Meanings.{packed_bytes, packed_words};
 ghost use Rattle.memory.specs.Packing.{unpacked};
 ghost use Rattle.memory.specs.Words.{at, blanks, Proper};
 ghost use Rattle.memory.specs.PackingLemmas.{unpacked-proper, unpacked-sized};
@@ -41,7 +41,7 @@ impl Packed {
 
     // The bytes that hold the words.
     pub fn into_bytes(self) -> Vec<u8>
-        ensures { result ≡ self.bytes }
+        ensures { result ≡ packed_bytes self }
     {
         let Packed { bytes } = self;
         bytes

@@ -1,7 +1,7 @@
 -- Each way out of check.
 use Rattle.std.proofs.Common.{rules}
 use Rattle.directory.specs.View.{world}
-use Rattle.directory.proofs.Doing.{inside, handed-on}
+use Rattle.directory.proofs.Doing.{inside, handed-on, answered-so}
 use Rattle.directory.proofs.Checking.{check-closed, check-none, check-unlooked, checks}
 use Rattle.directory.proofs.check.check.Goals as goal
 
@@ -21,5 +21,6 @@ returns-in_default-is_current g c =
 
 pub returns : goal.returns
 returns g c =
-    checks _ (world _ _ _ _ _ _) _ (inside _ (world _ _ _ _ _ _) _ c.in_ok-admit.ensures.answers) c.index-coordinators-c.result c.in-Checking.passed c.in-Checking.is
-    (g.met.P.Memory.proper c.args.primaries.now) c.index-coordinators-c-2.result _ _ _ c.in-Some.ensures _ c.in-Some-is_current.ensures _ c.note_check-outcome.ensures _ (search rules)
+    answered-so _ (world _ _ _ _ _ _) _ _ _ _ c.new.ensures
+    (checks _ (world _ _ _ _ _ _) _ (inside _ (world _ _ _ _ _ _) _ c.in_ok-admit.ensures.answers) c.index-coordinators-c.result c.in-Checking.passed c.in-Checking.is
+    (g.met.P.Memory.proper c.args.primaries.now) c.index-coordinators-c-2.result _ _ _ c.in-Some.ensures _ c.in-Some-is_current.ensures _ c.note_check-outcome.ensures _ (search rules))

@@ -1,7 +1,7 @@
 -- Each way out of commit.
 use Rattle.std.proofs.Common.{true, false, refl}
 use Rattle.directory.specs.View.{world}
-use Rattle.directory.proofs.Doing.{inside, handed-on}
+use Rattle.directory.proofs.Doing.{inside, handed-on, answered-so}
 use Rattle.directory.proofs.Committing.{commit-sizes, commit-records, commit-under, commit-closed, commit-used-up, commit-no-room, commit-begins}
 use Rattle.directory.proofs.commit.commit.Goals as goal
 
@@ -32,6 +32,7 @@ returns-in_default-has_room g c =
 
 pub returns : goal.returns
 returns g c =
-    commit-begins _ (world _ _ _ _ _ _) _ (inside _ (world _ _ _ _ _ _) _ c.in_ok-admit.ensures.answers) c.index-coordinators-c.result c.in-Open.is _ c.in-Some.is c.after-next.ensures.fits
+    answered-so _ (world _ _ _ _ _ _) _ _ _ _ c.new.ensures
+    (commit-begins _ (world _ _ _ _ _ _) _ (inside _ (world _ _ _ _ _ _) _ c.in_ok-admit.ensures.answers) c.index-coordinators-c.result c.in-Open.is _ c.in-Some.is c.after-next.ensures.fits
     true c.in-true.ensures refl (g.met.P.Memory.proper c.args.primaries.now) c.index-coordinators-c-2.result _
-    _ c.first_outcome-outcome.ensures _ c.after-next.ensures.next c.begin_commit.ensures
+    _ c.first_outcome-outcome.ensures _ c.after-next.ensures.next c.begin_commit.ensures)

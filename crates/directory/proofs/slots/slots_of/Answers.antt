@@ -4,4 +4,4 @@ use Rattle.directory.proofs.Blocks.{block_cut}
 use Rattle.directory.proofs.slots.slots_of.Goals as goal
 
 pub returns : goal.returns
-returns g c = block_cut _ _ _ _ _ (omega arith) c.block_of.ensures
+returns g c = block_cut _ _ _ _ _ (omega arith) c.block_of.ensures.block

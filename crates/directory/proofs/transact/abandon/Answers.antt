@@ -1,6 +1,6 @@
 -- Each way out of abandon.
 use Rattle.directory.specs.View.{world}
-use Rattle.directory.proofs.Doing.{inside, handed-on}
+use Rattle.directory.proofs.Doing.{inside, handed-on, answered-so}
 use Rattle.directory.proofs.Transacting.{abandon-closed, abandons}
 use Rattle.directory.proofs.transact.abandon.Goals as goal
 
@@ -12,5 +12,6 @@ returns-in_default g c = abandon-closed _ (world _ _ _ _ _ _) _ (inside _ (world
 
 pub returns : goal.returns
 returns g c =
-    abandons _ (world _ _ _ _ _ _) _ (inside _ (world _ _ _ _ _ _) _ c.in_ok-admit.ensures.answers) c.index-coordinators-c.result
-    (g.met.P.Memory.proper c.args.primaries.now) c.index-coordinators-c-2.result _ c.in-Open.is c.rest.ensures
+    answered-so _ (world _ _ _ _ _ _) _ _ _ _ c.new.ensures
+    (abandons _ (world _ _ _ _ _ _) _ (inside _ (world _ _ _ _ _ _) _ c.in_ok-admit.ensures.answers) c.index-coordinators-c.result
+    (g.met.P.Memory.proper c.args.primaries.now) c.index-coordinators-c-2.result _ c.in-Open.is c.rest.ensures)

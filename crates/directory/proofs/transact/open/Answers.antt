@@ -1,6 +1,6 @@
 -- Each way out of open.
 use Rattle.directory.specs.View.{world}
-use Rattle.directory.proofs.Doing.{inside, handed-on}
+use Rattle.directory.proofs.Doing.{inside, handed-on, answered-so}
 use Rattle.directory.proofs.Transacting.{open-closed, opens}
 use Rattle.directory.proofs.transact.open.Goals as goal
 
@@ -12,5 +12,6 @@ returns-in_default g c = open-closed _ (world _ _ _ _ _ _) _ (inside _ (world _ 
 
 pub returns : goal.returns
 returns g c =
-    opens _ (world _ _ _ _ _ _) _ (inside _ (world _ _ _ _ _ _) _ c.in_ok-admit.ensures.answers) c.index-coordinators-c.result
-    (g.met.P.Memory.proper c.args.primaries.now) c.index-coordinators-c-2.result _ c.in-Idle.is c.begin.ensures
+    answered-so _ (world _ _ _ _ _ _) _ _ _ _ c.new.ensures
+    (opens _ (world _ _ _ _ _ _) _ (inside _ (world _ _ _ _ _ _) _ c.in_ok-admit.ensures.answers) c.index-coordinators-c.result
+    (g.met.P.Memory.proper c.args.primaries.now) c.index-coordinators-c-2.result _ c.in-Idle.is c.begin.ensures)

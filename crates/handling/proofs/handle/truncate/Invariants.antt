@@ -1,8 +1,8 @@
 -- The records so far have gone into the backups.
 use Rattle.std.proofs.Common.{◌≡◌, length}
 use Rattle.protocol.specs.Plan.{size}
-use Rattle.handling.specs.Handling.{SoundLog, BackedUp}
-use Rattle.handling.proofs.Truncating.{in_order}
+use Rattle.handling.specs.Handling.{SoundLog}
+use Rattle.handling.proofs.Truncating.{in_order, BackedUp}
 use Rattle.handling.proofs.handle.truncate.Given as goal
 
 abbrev pub invariant-loop-entry : goal.invariant-loop-entry

@@ -1,0 +1,10 @@
+pub mod Accepting
+pub mod Agreeing
+pub mod Filling
+pub mod Listing
+pub mod Reading
+pub mod Refilling
+pub mod Rereading
+pub mod RoundTrip
+pub mod Splitting
+pub mod Unrolling

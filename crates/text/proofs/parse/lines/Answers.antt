@@ -1,0 +1,10 @@
+-- A text is cut at the ends of its lines.
+use Rattle.std.proofs.Common.{lit<}
+use Rattle.std.proofs.lemmas.Iterator.Consumers.{map_from_collect}
+use Rattle.std.proofs.lemmas.Iterator.Splits.{YieldsList-from_str_split}
+use Rattle.text.proofs.parse.lines.Goals as goal
+
+pub returns : goal.returns
+returns c =
+    map_from_collect c.collect.result c.collect.ensures.ran
+    (YieldsList-from_str_split 10 c.args.text.now (lit< tt) c.split.ensures.text c.split.ensures.has_more c.split.ensures.pattern)

@@ -1,0 +1,3 @@
+pub mod Moved
+pub mod Stepping
+pub mod Keeping
