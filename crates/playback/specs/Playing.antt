@@ -14,7 +14,7 @@ use Rattle.directory.specs.Calls.{Does, Ready}
 use Rattle.service.specs.declared.owner.Directory.{Directory}
 use Rattle.service.specs.declared.make.Unmade.{Unmade}
 use Rattle.service.specs.declared.make.Unmade.TheVariants.{Refused, NoMemory}
-use Rattle.service.specs.Owned.{owned}
+use Rattle.service.specs.Owned.{plan_of, owned}
 use Rattle.steps.specs.declared.sequence.IntoIter.{IntoIter}
 use Rattle.steps.specs.Frames.{Position}
 use Rattle.steps.specs.Reading.{steps_left}
@@ -59,11 +59,11 @@ Opens bytes (Err f) = start_of bytes ≡ Err f
 module _ {P F S : Type 0} (words_p : P → Words) (words_f : F → Words) (words_s : S → Words) where
   -- a directory in the protocol's start, for an accepted plan
   pub record Starts (d : Directory P F S) : Type 0 where
-    pub fine : is_fine d.plan ≡ true
-    pub ready : Ready d.plan (owned words_p words_f words_s d)
+    pub fine : is_fine (plan_of d) ≡ true
+    pub ready : Ready (plan_of d) (owned words_p words_f words_s d)
 
   -- a directory of the plan in the protocol's start, or the refusal; want of memory is not told
   abbrev pub Sets : (ℕ → Bool) → Plan → Result (Directory P F S) Unmade → Type 0
-  Sets fits p (Ok d) = (d.plan ≡ p) × (made fits p ≡ Ok (size p)) × Starts d
+  Sets fits p (Ok d) = (plan_of d ≡ p) × (made fits p ≡ Ok (size p)) × Starts d
   Sets fits p (Err (Refused n)) = made fits p ≡ Err n
   Sets fits p (Err (NoMemory e)) = Unit {0}

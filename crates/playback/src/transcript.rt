@@ -1,7 +1,7 @@
 // The lines that a step file is answered with.
 ghost use Rattle.std.specs.Prelude.{◌≡◌, ◌++◌, OnOk, IfOk, string_bytes};
 ghost use Rattle.std.specs.Iterator.Adapters.{enumerate_source};
-ghost use Rattle.service.specs.Owned.{owned};
+ghost use Rattle.service.specs.Owned.{plan_of, owned};
 ghost use Rattle.steps.specs.declared.fault.RunFault.TheVariants.{Entry};
 ghost use Rattle.steps.specs.Reading.{steps_left};
 ghost use Rattle.playback.specs.declared.transcript.Stop.TheVariants.{Fault, NoMemory};
@@ -101,8 +101,8 @@ fn play_call<P: Memory, F: Memory, S: Memory>(
     entry: usize,
     call: Call,
 ) -> Result<(), AllocError>
-    ensures tells { OnOk result (Tells directory.old.plan (owned P.words F.words S.words directory.old) (owned P.words F.words S.words directory.new) entry call (string_bytes out.old) (string_bytes out.new)) }
-    ensures plan { directory.new.plan ≡ directory.old.plan }
+    ensures tells { OnOk result (Tells (plan_of directory.old) (owned P.words F.words S.words directory.old) (owned P.words F.words S.words directory.new) entry call (string_bytes out.old) (string_bytes out.new)) }
+    ensures plan { plan_of directory.new ≡ plan_of directory.old }
 {
     let answer = directory.call(call);
     add_line(out, entry, name(call), answer)
@@ -116,7 +116,7 @@ fn play_calls<P: Memory + Drop, F: Memory + Drop, S: Memory + Drop>(
 ) -> Result<(), Stop>
     requires starts { Starts P.Memory.words F.Memory.words S.Memory.words directory }
     requires numbered { Numbered 1 steps }
-    ensures { Plays (string_bytes out.old) (string_bytes out.new) (calls_told directory.plan (steps_left (enumerate_source steps.entry))) result }
+    ensures { Plays (string_bytes out.old) (string_bytes out.new) (calls_told (plan_of directory) (steps_left (enumerate_source steps.entry))) result }
 {
     for (entry, placed) in steps {
         let Step::Call(call) = placed?.step else {

@@ -13,7 +13,7 @@ use Rattle.service.specs.declared.owner.Directory.{Directory}
 use Rattle.service.specs.declared.make.Unmade.{Unmade}
 use Rattle.service.specs.declared.make.Unmade.TheVariants.{Refused, NoMemory}
 use Rattle.service.specs.declared.owner.Tables.{Tables}
-use Rattle.service.specs.Owned.{owned}
+use Rattle.service.specs.Owned.{plan_of, owned}
 
 -- just as long as the plan needs
 pub record FitsTables (p : Plan) (t : Tables) : Type 0 where
@@ -45,6 +45,6 @@ module _ {P F S : Type 0} (words_p : P → Words) (words_f : F → Words) (words
   -- a directory in the protocol's start, or the memories with the words that they had, and the cause
   abbrev pub Makes : Result (Directory P F S) (Rejected Unmade (P × F × S)) → Type 0
   Makes (Ok d) =
-      (d.plan ≡ p) × (set_up p (has_fitting_memories p (words_p primaries) (words_f firsts) (words_s seconds)) ≡ Ok (size p)) × Ready p (owned words_p words_f words_s d)
+      (plan_of d ≡ p) × (set_up p (has_fitting_memories p (words_p primaries) (words_f firsts) (words_s seconds)) ≡ Ok (size p)) × Ready p (owned words_p words_f words_s d)
   Makes (Err h) =
       (words_p h.given.0 ≡ words_p primaries) × (words_f h.given.1 ≡ words_f firsts) × (words_s h.given.2 ≡ words_s seconds) × Caused p (words_p primaries) (words_f firsts) (words_s seconds) h.error

@@ -1,11 +1,16 @@
 -- What a directory owns, as what a caller would lend.
 use Rattle.std.specs.Prelude.{ℕ, Bool, true, false, List, [], ◌∷◌, Option, vec_items}
 use Rattle.memory.specs.Words.{look_at}
+use Rattle.protocol.specs.declared.plan.Plan.{Plan}
 use Rattle.protocol.specs.Lines.{Words}
 use Rattle.directory.specs.declared.tables.Phase.{Phase}
 use Rattle.directory.specs.declared.tables.Phase.TheVariants.{Idle, Open, Locking, Checking, Backing, Installing, Aborting}
 use Rattle.directory.specs.View.{World, world}
 use Rattle.service.specs.declared.owner.Directory.{Directory}
+
+-- the plan that it was made for
+abbrev pub plan_of : {P F S : Type 0} → Directory P F S → Plan
+plan_of d = d.plan
 
 -- given the words that each memory means
 abbrev pub owned : {P F S : Type 0} → (P → Words) → (F → Words) → (S → Words) → Directory P F S → World

@@ -3,7 +3,7 @@
 ghost use Rattle.std.specs.Prelude.{◌≡◌};
 ghost use Rattle.protocol.specs.declared.call.Call.TheVariants.{Open, Read, Write, Abandon, Commit, Send, Poll, Take, Check, Trim};
 ghost use Rattle.directory.specs.Calls.{Does};
-ghost use Rattle.service.specs.Owned.{owned};
+ghost use Rattle.service.specs.Owned.{plan_of, owned};
 
 use crate::owner::Directory;
 use directory::{check, commit, poll, send, take, transact, trim};
@@ -13,8 +13,8 @@ use protocol::call::{Answer, Call, Refusal};
 impl<P: Memory, F: Memory, S: Memory> Directory<P, F, S> {
     // Starts a transaction.
     pub fn open(&mut self, c: u8) -> Result<Answer, Refusal>
-        ensures does { Does self.old.plan (owned P.Memory.words F.Memory.words S.Memory.words self.old) (owned P.Memory.words F.Memory.words S.Memory.words self.new) result (Open c) }
-        ensures plan { self.new.plan ≡ self.old.plan }
+        ensures does { Does (plan_of self.old) (owned P.Memory.words F.Memory.words S.Memory.words self.old) (owned P.Memory.words F.Memory.words S.Memory.words self.new) result (Open c) }
+        ensures plan { plan_of self.new ≡ plan_of self.old }
     {
         transact::open(
             &self.plan,
@@ -30,8 +30,8 @@ impl<P: Memory, F: Memory, S: Memory> Directory<P, F, S> {
 
     // Answers version and value of a word.
     pub fn read(&mut self, c: u8, address: u16) -> Result<Answer, Refusal>
-        ensures does { Does self.old.plan (owned P.Memory.words F.Memory.words S.Memory.words self.old) (owned P.Memory.words F.Memory.words S.Memory.words self.new) result (Read c address) }
-        ensures plan { self.new.plan ≡ self.old.plan }
+        ensures does { Does (plan_of self.old) (owned P.Memory.words F.Memory.words S.Memory.words self.old) (owned P.Memory.words F.Memory.words S.Memory.words self.new) result (Read c address) }
+        ensures plan { plan_of self.new ≡ plan_of self.old }
     {
         transact::read(
             &self.plan,
@@ -48,8 +48,8 @@ impl<P: Memory, F: Memory, S: Memory> Directory<P, F, S> {
 
     // Buffers a value for a word that was read.
     pub fn write(&mut self, c: u8, address: u16, value: u64) -> Result<Answer, Refusal>
-        ensures does { Does self.old.plan (owned P.Memory.words F.Memory.words S.Memory.words self.old) (owned P.Memory.words F.Memory.words S.Memory.words self.new) result (Write c address value) }
-        ensures plan { self.new.plan ≡ self.old.plan }
+        ensures does { Does (plan_of self.old) (owned P.Memory.words F.Memory.words S.Memory.words self.old) (owned P.Memory.words F.Memory.words S.Memory.words self.new) result (Write c address value) }
+        ensures plan { plan_of self.new ≡ plan_of self.old }
     {
         transact::write(
             &self.plan,
@@ -67,8 +67,8 @@ impl<P: Memory, F: Memory, S: Memory> Directory<P, F, S> {
 
     // Gives the transaction up.
     pub fn abandon(&mut self, c: u8) -> Result<Answer, Refusal>
-        ensures does { Does self.old.plan (owned P.Memory.words F.Memory.words S.Memory.words self.old) (owned P.Memory.words F.Memory.words S.Memory.words self.new) result (Abandon c) }
-        ensures plan { self.new.plan ≡ self.old.plan }
+        ensures does { Does (plan_of self.old) (owned P.Memory.words F.Memory.words S.Memory.words self.old) (owned P.Memory.words F.Memory.words S.Memory.words self.new) result (Abandon c) }
+        ensures plan { plan_of self.new ≡ plan_of self.old }
     {
         transact::abandon(
             &self.plan,
@@ -84,8 +84,8 @@ impl<P: Memory, F: Memory, S: Memory> Directory<P, F, S> {
 
     // Begins the commit, and answers its number.
     pub fn commit(&mut self, c: u8) -> Result<Answer, Refusal>
-        ensures does { Does self.old.plan (owned P.Memory.words F.Memory.words S.Memory.words self.old) (owned P.Memory.words F.Memory.words S.Memory.words self.new) result (Commit c) }
-        ensures plan { self.new.plan ≡ self.old.plan }
+        ensures does { Does (plan_of self.old) (owned P.Memory.words F.Memory.words S.Memory.words self.old) (owned P.Memory.words F.Memory.words S.Memory.words self.new) result (Commit c) }
+        ensures plan { plan_of self.new ≡ plan_of self.old }
     {
         commit::commit(
             &self.plan,
@@ -101,8 +101,8 @@ impl<P: Memory, F: Memory, S: Memory> Directory<P, F, S> {
 
     // Writes the next record that is due, and answers its machine and kind.
     pub fn send(&mut self, c: u8) -> Result<Answer, Refusal>
-        ensures does { Does self.old.plan (owned P.Memory.words F.Memory.words S.Memory.words self.old) (owned P.Memory.words F.Memory.words S.Memory.words self.new) result (Send c) }
-        ensures plan { self.new.plan ≡ self.old.plan }
+        ensures does { Does (plan_of self.old) (owned P.Memory.words F.Memory.words S.Memory.words self.old) (owned P.Memory.words F.Memory.words S.Memory.words self.new) result (Send c) }
+        ensures plan { plan_of self.new ≡ plan_of self.old }
     {
         send::send(
             &self.plan,
@@ -118,8 +118,8 @@ impl<P: Memory, F: Memory, S: Memory> Directory<P, F, S> {
 
     // Handles the next record of a log, and answers its kind and count.
     pub fn poll(&mut self, c: u8, m: u8) -> Result<Answer, Refusal>
-        ensures does { Does self.old.plan (owned P.Memory.words F.Memory.words S.Memory.words self.old) (owned P.Memory.words F.Memory.words S.Memory.words self.new) result (Poll c m) }
-        ensures plan { self.new.plan ≡ self.old.plan }
+        ensures does { Does (plan_of self.old) (owned P.Memory.words F.Memory.words S.Memory.words self.old) (owned P.Memory.words F.Memory.words S.Memory.words self.new) result (Poll c m) }
+        ensures plan { plan_of self.new ≡ plan_of self.old }
     {
         poll::poll(
             &self.plan,
@@ -136,8 +136,8 @@ impl<P: Memory, F: Memory, S: Memory> Directory<P, F, S> {
 
     // Takes a machine's reply, and answers 1 or 0.
     pub fn take(&mut self, c: u8, m: u8) -> Result<Answer, Refusal>
-        ensures does { Does self.old.plan (owned P.Memory.words F.Memory.words S.Memory.words self.old) (owned P.Memory.words F.Memory.words S.Memory.words self.new) result (Take c m) }
-        ensures plan { self.new.plan ≡ self.old.plan }
+        ensures does { Does (plan_of self.old) (owned P.Memory.words F.Memory.words S.Memory.words self.old) (owned P.Memory.words F.Memory.words S.Memory.words self.new) result (Take c m) }
+        ensures plan { plan_of self.new ≡ plan_of self.old }
     {
         take::take(
             &self.plan,
@@ -154,8 +154,8 @@ impl<P: Memory, F: Memory, S: Memory> Directory<P, F, S> {
 
     // Checks the next word read and not written, and answers its address and 1 or 0.
     pub fn check(&mut self, c: u8) -> Result<Answer, Refusal>
-        ensures does { Does self.old.plan (owned P.Memory.words F.Memory.words S.Memory.words self.old) (owned P.Memory.words F.Memory.words S.Memory.words self.new) result (Check c) }
-        ensures plan { self.new.plan ≡ self.old.plan }
+        ensures does { Does (plan_of self.old) (owned P.Memory.words F.Memory.words S.Memory.words self.old) (owned P.Memory.words F.Memory.words S.Memory.words self.new) result (Check c) }
+        ensures plan { plan_of self.new ≡ plan_of self.old }
     {
         check::check(
             &self.plan,
@@ -171,8 +171,8 @@ impl<P: Memory, F: Memory, S: Memory> Directory<P, F, S> {
 
     // Writes a TRUNCATE, and answers its number.
     pub fn trim(&mut self, c: u8, m: u8) -> Result<Answer, Refusal>
-        ensures does { Does self.old.plan (owned P.Memory.words F.Memory.words S.Memory.words self.old) (owned P.Memory.words F.Memory.words S.Memory.words self.new) result (Trim c m) }
-        ensures plan { self.new.plan ≡ self.old.plan }
+        ensures does { Does (plan_of self.old) (owned P.Memory.words F.Memory.words S.Memory.words self.old) (owned P.Memory.words F.Memory.words S.Memory.words self.new) result (Trim c m) }
+        ensures plan { plan_of self.new ≡ plan_of self.old }
     {
         trim::trim(
             &self.plan,
@@ -189,8 +189,8 @@ impl<P: Memory, F: Memory, S: Memory> Directory<P, F, S> {
 
     // Makes a call.
     pub fn call(&mut self, call: Call) -> Result<Answer, Refusal>
-        ensures does { Does self.old.plan (owned P.Memory.words F.Memory.words S.Memory.words self.old) (owned P.Memory.words F.Memory.words S.Memory.words self.new) result call }
-        ensures plan { self.new.plan ≡ self.old.plan }
+        ensures does { Does (plan_of self.old) (owned P.Memory.words F.Memory.words S.Memory.words self.old) (owned P.Memory.words F.Memory.words S.Memory.words self.new) result call }
+        ensures plan { plan_of self.new ≡ plan_of self.old }
     {
         match call {
             Call::Open(c) => self.open(c),

@@ -2,7 +2,7 @@
 ghost use Rattle.std.specs.Prelude.{◌≡◌};
 ghost use Rattle.protocol.specs.Coordinator.{is_idle};
 ghost use Rattle.directory.specs.View.{view};
-ghost use Rattle.service.specs.Owned.{owned, copies, is_resting};
+ghost use Rattle.service.specs.Owned.{plan_of, owned, copies, is_resting};
 
 use crate::owner::Directory;
 use directory::tables::Phase;
@@ -21,7 +21,7 @@ fn is_resting(phase: &Phase) -> bool
 impl<P: Memory, F: Memory, S: Memory> Directory<P, F, S> {
     // Whether coordinator c has no transaction under way. One that is not there has none.
     pub fn is_idle(&self, c: u8) -> bool
-        ensures { result ≡ is_idle ((view self.now.plan (owned P.Memory.words F.Memory.words S.Memory.words self.now)).coordinators c).phase }
+        ensures { result ≡ is_idle ((view (plan_of self.now) (owned P.Memory.words F.Memory.words S.Memory.words self.now)).coordinators c).phase }
     {
         if c >= self.plan.coordinators {
             return true;

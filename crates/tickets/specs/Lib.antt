@@ -1,3 +1,4 @@
+pub mod Holding
 pub mod Answers
 pub mod Standing
 pub mod Promises

@@ -3,10 +3,11 @@ ghost use Rattle.std.specs.Prelude.{◌≡◌, IfOk, IfErr};
 ghost use Rattle.protocol.specs.declared.call.Call.TheVariants.{Open, Read, Write, Abandon};
 ghost use Rattle.protocol.specs.Coordinator.{Opened, is_idle};
 ghost use Rattle.directory.specs.View.{view};
-ghost use Rattle.service.specs.Owned.{owned};
+ghost use Rattle.service.specs.Owned.{plan_of, owned};
 ghost use Rattle.tickets.specs.Answers.{opened, abandoned, given_up, committed};
 ghost use Rattle.directory.specs.Sound.{Sound};
 ghost use Rattle.directory.specs.Calls.{Does};
+ghost use Rattle.tickets.specs.Holding.{draft_coordinator};
 ghost use Rattle.tickets.specs.Standing.{phase_at, IsOpen, StaysOpen, DraftEnds};
 ghost use Rattle.tickets.specs.Promises.{Commits};
 
@@ -27,10 +28,10 @@ impl Draft {
         directory: &mut Directory<P, F, S>,
         c: u8,
     ) -> Result<Draft, Refusal>
-        ensures does { Does directory.old.plan (owned P.Memory.words F.Memory.words S.Memory.words directory.old) (owned P.Memory.words F.Memory.words S.Memory.words directory.new) (opened result) (Open c) }
-        ensures number { IfOk result (λ d. d.coordinator ≡ c) }
-        ensures stands { Sound directory.old.plan (owned P.Memory.words F.Memory.words S.Memory.words directory.old) → IfOk result (λ _. phase_at (view directory.old.plan (owned P.Memory.words F.Memory.words S.Memory.words directory.new)) c ≡ Opened) }
-        ensures plan { directory.new.plan ≡ directory.old.plan }
+        ensures does { Does (plan_of directory.old) (owned P.Memory.words F.Memory.words S.Memory.words directory.old) (owned P.Memory.words F.Memory.words S.Memory.words directory.new) (opened result) (Open c) }
+        ensures number { IfOk result (λ d. draft_coordinator d ≡ c) }
+        ensures stands { Sound (plan_of directory.old) (owned P.Memory.words F.Memory.words S.Memory.words directory.old) → IfOk result (λ _. phase_at (view (plan_of directory.old) (owned P.Memory.words F.Memory.words S.Memory.words directory.new)) c ≡ Opened) }
+        ensures plan { plan_of directory.new ≡ plan_of directory.old }
     {
         directory.open(c)?;
         Ok(Draft { coordinator: c })
@@ -42,9 +43,9 @@ impl Draft {
         directory: &mut Directory<P, F, S>,
         address: u16,
     ) -> Result<Answer, Refusal>
-        ensures does { Does directory.old.plan (owned P.Memory.words F.Memory.words S.Memory.words directory.old) (owned P.Memory.words F.Memory.words S.Memory.words directory.new) result (Read self.now.coordinator address) }
-        ensures stands { StaysOpen directory.old.plan (owned P.Memory.words F.Memory.words S.Memory.words directory.old) (owned P.Memory.words F.Memory.words S.Memory.words directory.new) self.now }
-        ensures plan { directory.new.plan ≡ directory.old.plan }
+        ensures does { Does (plan_of directory.old) (owned P.Memory.words F.Memory.words S.Memory.words directory.old) (owned P.Memory.words F.Memory.words S.Memory.words directory.new) result (Read (draft_coordinator self.now) address) }
+        ensures stands { StaysOpen (plan_of directory.old) (owned P.Memory.words F.Memory.words S.Memory.words directory.old) (owned P.Memory.words F.Memory.words S.Memory.words directory.new) self.now }
+        ensures plan { plan_of directory.new ≡ plan_of directory.old }
     {
         directory.read(self.coordinator, address)
     }
@@ -56,9 +57,9 @@ impl Draft {
         address: u16,
         value: u64,
     ) -> Result<Answer, Refusal>
-        ensures does { Does directory.old.plan (owned P.Memory.words F.Memory.words S.Memory.words directory.old) (owned P.Memory.words F.Memory.words S.Memory.words directory.new) result (Write self.now.coordinator address value) }
-        ensures stands { StaysOpen directory.old.plan (owned P.Memory.words F.Memory.words S.Memory.words directory.old) (owned P.Memory.words F.Memory.words S.Memory.words directory.new) self.now }
-        ensures plan { directory.new.plan ≡ directory.old.plan }
+        ensures does { Does (plan_of directory.old) (owned P.Memory.words F.Memory.words S.Memory.words directory.old) (owned P.Memory.words F.Memory.words S.Memory.words directory.new) result (Write (draft_coordinator self.now) address value) }
+        ensures stands { StaysOpen (plan_of directory.old) (owned P.Memory.words F.Memory.words S.Memory.words directory.old) (owned P.Memory.words F.Memory.words S.Memory.words directory.new) self.now }
+        ensures plan { plan_of directory.new ≡ plan_of directory.old }
     {
         directory.write(self.coordinator, address, value)
     }
@@ -68,10 +69,10 @@ impl Draft {
         self,
         directory: &mut Directory<P, F, S>,
     ) -> Result<Outcome, Rejected<Refusal, Draft>>
-        ensures does { Does directory.old.plan (owned P.Memory.words F.Memory.words S.Memory.words directory.old) (owned P.Memory.words F.Memory.words S.Memory.words directory.new) (abandoned result) (Abandon self.coordinator) }
+        ensures does { Does (plan_of directory.old) (owned P.Memory.words F.Memory.words S.Memory.words directory.old) (owned P.Memory.words F.Memory.words S.Memory.words directory.new) (abandoned result) (Abandon (draft_coordinator self)) }
         ensures handed_back { IfErr result (λ h. h.given ≡ self) }
-        ensures ends { Sound directory.old.plan (owned P.Memory.words F.Memory.words S.Memory.words directory.old) → IsOpen (view directory.old.plan (owned P.Memory.words F.Memory.words S.Memory.words directory.old)) self → DraftEnds (view directory.old.plan (owned P.Memory.words F.Memory.words S.Memory.words directory.new)) self.coordinator result }
-        ensures plan { directory.new.plan ≡ directory.old.plan }
+        ensures ends { Sound (plan_of directory.old) (owned P.Memory.words F.Memory.words S.Memory.words directory.old) → IsOpen (view (plan_of directory.old) (owned P.Memory.words F.Memory.words S.Memory.words directory.old)) self → DraftEnds (view (plan_of directory.old) (owned P.Memory.words F.Memory.words S.Memory.words directory.new)) (draft_coordinator self) result }
+        ensures plan { plan_of directory.new ≡ plan_of directory.old }
     {
         let answer = directory.abandon(self.coordinator);
         self.given_up(answer)
@@ -83,8 +84,8 @@ impl Draft {
         self,
         directory: &mut Directory<P, F, S>,
     ) -> Result<Progress, Rejected<Refusal, Draft>>
-        ensures commits { Commits directory.old.plan (owned P.Memory.words F.Memory.words S.Memory.words directory.old) (owned P.Memory.words F.Memory.words S.Memory.words directory.new) self result }
-        ensures plan { directory.new.plan ≡ directory.old.plan }
+        ensures commits { Commits (plan_of directory.old) (owned P.Memory.words F.Memory.words S.Memory.words directory.old) (owned P.Memory.words F.Memory.words S.Memory.words directory.new) self result }
+        ensures plan { plan_of directory.new ≡ plan_of directory.old }
     {
         let answer = directory.commit(self.coordinator);
         self.committed(directory, answer)
@@ -92,7 +93,7 @@ impl Draft {
 
     // Lets a directory go, and with it the transaction that the draft stood for: its coordinator.
     pub fn close<P: Drop, F: Drop, S: Drop>(self, _directory: Directory<P, F, S>) -> u8
-        ensures { result ≡ self.coordinator }
+        ensures { result ≡ draft_coordinator self }
     {
         let Draft { coordinator: left } = self;
         left
@@ -117,8 +118,8 @@ impl Draft {
         directory: &Directory<P, F, S>,
         answer: Result<Answer, Refusal>,
     ) -> Result<Progress, Rejected<Refusal, Draft>>
-        ensures { let after = view directory.now.plan (owned P.Memory.words F.Memory.words S.Memory.words directory.now) in
-            result ≡ committed self (is_idle (after.coordinators self.coordinator).phase) answer }
+        ensures { let after = view (plan_of directory.now) (owned P.Memory.words F.Memory.words S.Memory.words directory.now) in
+            result ≡ committed self (is_idle (after.coordinators (draft_coordinator self)).phase) answer }
     {
         match answer {
             Ok(answer) => {

@@ -4,8 +4,9 @@ ghost use Rattle.protocol.specs.declared.call.Outcome.TheVariants.{Going};
 ghost use Rattle.protocol.specs.declared.call.Call.TheVariants.{Send, Take, Check};
 ghost use Rattle.protocol.specs.Coordinator.{is_idle};
 ghost use Rattle.directory.specs.View.{view};
-ghost use Rattle.service.specs.Owned.{owned};
+ghost use Rattle.service.specs.Owned.{plan_of, owned};
 ghost use Rattle.tickets.specs.Answers.{latest, progress, carried};
+ghost use Rattle.tickets.specs.Holding.{filing_coordinator, filing_reported};
 ghost use Rattle.tickets.specs.Promises.{Carries};
 
 use memory::interface::Memory;
@@ -39,8 +40,8 @@ fn latest(reported: Outcome, outcome: Outcome) -> Outcome
 impl Filing {
     // Of a transaction whose commit is being accepted: nothing is reported yet.
     pub(crate) fn new(coordinator: u8) -> Filing
-        ensures coordinator { result.coordinator ≡ coordinator }
-        ensures reported { result.reported ≡ Going }
+        ensures coordinator { filing_coordinator result ≡ coordinator }
+        ensures reported { filing_reported result ≡ Going }
     {
         Filing {
             coordinator,
@@ -54,8 +55,8 @@ impl Filing {
         directory: &Directory<P, F, S>,
         answer: Answer,
     ) -> Progress
-        ensures { let after = view directory.now.plan (owned P.Memory.words F.Memory.words S.Memory.words directory.now) in
-            result ≡ progress self.coordinator self.reported (is_idle (after.coordinators self.coordinator).phase) answer }
+        ensures { let after = view (plan_of directory.now) (owned P.Memory.words F.Memory.words S.Memory.words directory.now) in
+            result ≡ progress (filing_coordinator self) (filing_reported self) (is_idle (after.coordinators (filing_coordinator self)).phase) answer }
     {
         let Filing {
             coordinator,
@@ -81,8 +82,8 @@ impl Filing {
         directory: &Directory<P, F, S>,
         answer: Result<Answer, Refusal>,
     ) -> Result<Progress, Rejected<Refusal, Filing>>
-        ensures { let after = view directory.now.plan (owned P.Memory.words F.Memory.words S.Memory.words directory.now) in
-            result ≡ carried self (is_idle (after.coordinators self.coordinator).phase) answer }
+        ensures { let after = view (plan_of directory.now) (owned P.Memory.words F.Memory.words S.Memory.words directory.now) in
+            result ≡ carried self (is_idle (after.coordinators (filing_coordinator self)).phase) answer }
     {
         match answer {
             Ok(answer) => Ok(self.after(directory, answer)),
@@ -92,7 +93,7 @@ impl Filing {
 
     // What was reported of the transaction so far.
     pub fn reported(&self) -> Outcome
-        ensures { result ≡ self.now.reported }
+        ensures { result ≡ filing_reported self.now }
     {
         self.reported
     }
@@ -103,8 +104,8 @@ impl Filing {
         self,
         directory: &mut Directory<P, F, S>,
     ) -> Result<Progress, Rejected<Refusal, Filing>>
-        ensures carries { Carries directory.old.plan (owned P.Memory.words F.Memory.words S.Memory.words directory.old) (owned P.Memory.words F.Memory.words S.Memory.words directory.new) self (Send self.coordinator) result }
-        ensures plan { directory.new.plan ≡ directory.old.plan }
+        ensures carries { Carries (plan_of directory.old) (owned P.Memory.words F.Memory.words S.Memory.words directory.old) (owned P.Memory.words F.Memory.words S.Memory.words directory.new) self (Send (filing_coordinator self)) result }
+        ensures plan { plan_of directory.new ≡ plan_of directory.old }
     {
         let answer = directory.send(self.coordinator);
         self.answered(directory, answer)
@@ -117,8 +118,8 @@ impl Filing {
         directory: &mut Directory<P, F, S>,
         machine: u8,
     ) -> Result<Progress, Rejected<Refusal, Filing>>
-        ensures carries { Carries directory.old.plan (owned P.Memory.words F.Memory.words S.Memory.words directory.old) (owned P.Memory.words F.Memory.words S.Memory.words directory.new) self (Take self.coordinator machine) result }
-        ensures plan { directory.new.plan ≡ directory.old.plan }
+        ensures carries { Carries (plan_of directory.old) (owned P.Memory.words F.Memory.words S.Memory.words directory.old) (owned P.Memory.words F.Memory.words S.Memory.words directory.new) self (Take (filing_coordinator self) machine) result }
+        ensures plan { plan_of directory.new ≡ plan_of directory.old }
     {
         let answer = directory.take(self.coordinator, machine);
         self.answered(directory, answer)
@@ -130,8 +131,8 @@ impl Filing {
         self,
         directory: &mut Directory<P, F, S>,
     ) -> Result<Progress, Rejected<Refusal, Filing>>
-        ensures carries { Carries directory.old.plan (owned P.Memory.words F.Memory.words S.Memory.words directory.old) (owned P.Memory.words F.Memory.words S.Memory.words directory.new) self (Check self.coordinator) result }
-        ensures plan { directory.new.plan ≡ directory.old.plan }
+        ensures carries { Carries (plan_of directory.old) (owned P.Memory.words F.Memory.words S.Memory.words directory.old) (owned P.Memory.words F.Memory.words S.Memory.words directory.new) self (Check (filing_coordinator self)) result }
+        ensures plan { plan_of directory.new ≡ plan_of directory.old }
     {
         let answer = directory.check(self.coordinator);
         self.answered(directory, answer)
@@ -139,7 +140,7 @@ impl Filing {
 
     // Lets a directory go, and with it the transaction that the filing stood for: its coordinator.
     pub fn close<P: Drop, F: Drop, S: Drop>(self, _directory: Directory<P, F, S>) -> u8
-        ensures { result ≡ self.coordinator }
+        ensures { result ≡ filing_coordinator self }
     {
         let Filing {
             coordinator: left,
