@@ -1,5 +1,5 @@
--- Numbered lines from which some are passed over, and the first of the rest that is not written.
-use Rattle.std.proofs.Common.{◌≡◌, ℕ, zero, suc, ◌+◌, ◌-◌, ◌<◌, ◌≤◌, Bool, true, false, cond, not, List, [], ◌∷◌, length, drop, Some, None, Option, refl, sym, ap, ◌∙◌, subst, ⊎_elim, arith, is_some}
+-- Lines numbered from some number on, and the first of them that is not written.
+use Rattle.std.proofs.Common.{◌≡◌, ℕ, suc, ◌+◌, ◌-◌, ◌<◌, ◌≤◌, Bool, true, false, cond, not, List, [], ◌∷◌, length, drop, Some, None, Option, refl, sym, ap, ◌∙◌, subst, ⊎_elim, arith, is_some}
 use Rattle.std.specs.List.{filter, find, enumerate_from}
 use Rattle.std.specs.Option.{MatchOption}
 use Rattle.std.specs.declared.iter.Zip.{Zip}
@@ -7,11 +7,12 @@ use Rattle.std.specs.declared.ops.RangeFrom.{RangeFrom}
 use Rattle.std.specs.Iterator.{AlwaysYields}
 use Rattle.std.specs.Iterator.Adapters.{zip_first, zip_second}
 use Rattle.std.proofs.lemmas.Iterator.{YieldsList, zips}
+use Rattle.std.proofs.lemmas.List.{drop-drop}
 use Rattle.protocol.specs.declared.record.Line.{Line}
 use Rattle.protocol.specs.Coordinator.{line_at}
 use Rattle.directory.specs.declared.tables.Work.{Work}
 use Rattle.directory.specs.View.{reads_of, writes_of}
-use Rattle.directory.specs.Progress.{unwritten_from, NextUnwritten}
+use Rattle.directory.specs.Progress.{NextUnwritten}
 
 -- Numbers from a on beside the items of another iterator, which ends first.
 abbrev pub upward : RangeFrom ℕ → Option ℕ → RangeFrom ℕ → Type 0
@@ -40,37 +41,33 @@ unwritten ws l = not (is_some (line_at l.address ws))
 abbrev pub numbered : List Line → ℕ × Line → Bool
 numbered ws x = unwritten ws x.1
 
-abbrev pub FirstOf : List Line → ℕ → List Line → ℕ → Option (ℕ × Line) → Type 0
-FirstOf ws a ls n None = filter (unwritten ws) (drop n ls) ≡ []
-FirstOf ws a ls n (Some x) = (a < x.0) × (filter (unwritten ws) (drop n ls) ≡ x.1 ∷ filter (unwritten ws) (drop (x.0 - a) ls))
+abbrev pub FirstOf : List Line → ℕ → List Line → Option (ℕ × Line) → Type 0
+FirstOf ws a ls None = filter (unwritten ws) ls ≡ []
+FirstOf ws a ls (Some x) = (a < x.0) × (filter (unwritten ws) ls ≡ x.1 ∷ filter (unwritten ws) (drop (x.0 - a) ls))
 
-one-more : (ws : List Line) (a : ℕ) (l : Line) (ls : List Line) (n : ℕ) (o : Option (ℕ × Line)) → FirstOf ws (a + 1) ls n o → FirstOf ws a (l ∷ ls) (suc n) o
-one-more ws a l ls n None f = f
-one-more ws a l ls n (Some x) f =
-    let e : suc (x.0 - (a + 1)) ≡ x.0 - a = omega (arith, f.0) in
-    (omega (arith, f.0), f.1 ∙ ap (λ (k : ℕ). x.1 ∷ filter (unwritten ws) (drop k (l ∷ ls))) e)
-
-first-of : (ws : List Line) (a : ℕ) (l : Line) (ls : List Line) (b : Bool) → unwritten ws l ≡ b → (o : Option (ℕ × Line)) → FirstOf ws a (l ∷ ls) 1 o
-    → FirstOf ws a (l ∷ ls) 0 (cond b (Some (a + 1, l)) o)
+first-of : (ws : List Line) (a : ℕ) (l : Line) (ls : List Line) (b : Bool) → unwritten ws l ≡ b → (o : Option (ℕ × Line)) → FirstOf ws (a + 1) ls o
+    → FirstOf ws a (l ∷ ls) (cond b (Some (a + 1, l)) o)
 first-of ws a l ls true e o f =
     let k : 1 ≡ a + 1 - a = omega arith in
     (omega arith, ap (λ (b : Bool). cond b (l ∷ filter (unwritten ws) ls) (filter (unwritten ws) ls)) e ∙ ap (λ (k : ℕ). l ∷ filter (unwritten ws) (drop k (l ∷ ls))) k)
 first-of ws a l ls false e None f = ap (λ (b : Bool). cond b (l ∷ filter (unwritten ws) ls) (filter (unwritten ws) ls)) e ∙ f
-first-of ws a l ls false e (Some x) f = (f.0, ap (λ (b : Bool). cond b (l ∷ filter (unwritten ws) ls) (filter (unwritten ws) ls)) e ∙ f.1)
+first-of ws a l ls false e (Some x) f =
+    let k : suc (x.0 - (a + 1)) ≡ x.0 - a = omega (arith, f.0) in (
+      omega (arith, f.0),
+      ap (λ (b : Bool). cond b (l ∷ filter (unwritten ws) ls) (filter (unwritten ws) ls)) e ∙ f.1 ∙ ap (λ (k : ℕ). x.1 ∷ filter (unwritten ws) (drop k (l ∷ ls))) k,
+    )
 
-pub found : (ws : List Line) (a : ℕ) (ls : List Line) (n : ℕ) → FirstOf ws a ls n (find (numbered ws) (drop n (enumerate_from (a + 1) ls)))
-found ws a [] zero = refl
-found ws a [] (suc n) = refl
-found ws a (l ∷ ls) zero = first-of ws a l ls (unwritten ws l) refl _ (one-more ws a l ls 0 _ (found ws (a + 1) ls 0))
-found ws a (l ∷ ls) (suc n) = one-more ws a l ls n _ (found ws (a + 1) ls n)
+pub found : (ws : List Line) (a : ℕ) (ls : List Line) → FirstOf ws a ls (find (numbered ws) (enumerate_from (a + 1) ls))
+found ws a [] = refl
+found ws a (l ∷ ls) = first-of ws a l ls (unwritten ws l) refl _ (found ws (a + 1) ls)
 
--- so the next word to check is found
+-- so the next word to check is found behind the first n reads
 module _ (t : Work) (n : ℕ) where
-  is-next : (r : Option (ℕ × Line)) → FirstOf (writes_of t) 0 (reads_of t) n r → NextUnwritten t n r
+  is-next : (r : Option (ℕ × Line)) → FirstOf (writes_of t) n (drop n (reads_of t)) r → NextUnwritten t n r
   is-next None f = f
   is-next (Some x) f =
-      let e : x.0 - 0 ≡ x.0 = omega arith in
-      f.1 ∙ ap (λ (k : ℕ). x.1 ∷ unwritten_from t k) e
+      let e : n + (x.0 - n) ≡ x.0 = omega (arith, f.0) in
+      f.1 ∙ ap (λ (ls : List Line). x.1 ∷ filter (unwritten (writes_of t)) ls) (drop-drop (x.0 - n) n (reads_of t) ∙ ap (λ (k : ℕ). drop k (reads_of t)) e)
 
-  pub next-found : (r : Option (ℕ × Line)) → r ≡ find (numbered (writes_of t)) (drop n (enumerate_from 1 (reads_of t))) → NextUnwritten t n r
-  next-found r e = is-next r (subst (FirstOf (writes_of t) 0 (reads_of t) n) (sym e) (found (writes_of t) 0 (reads_of t) n))
+  pub next-found : (r : Option (ℕ × Line)) → r ≡ find (numbered (writes_of t)) (enumerate_from (n + 1) (drop n (reads_of t))) → NextUnwritten t n r
+  next-found r e = is-next r (subst (FirstOf (writes_of t) n (drop n (reads_of t))) (sym e) (found (writes_of t) n (drop n (reads_of t))))

@@ -45,9 +45,9 @@ impl Work {
     pub(crate) fn next_unwritten(&self, passed: u8) -> Option<(u8, Line)>
         ensures { NextUnwritten self.now passed result }
     {
-        (1u8..)
-            .zip(self.reads.as_slice().iter().copied())
-            .skip(passed as usize)
+        let left = self.reads.as_slice().get(passed as usize..)?;
+        (passed + 1..)
+            .zip(left.iter().copied())
             .find(|(_, line)| !self.is_written(line.address))
     }
 

@@ -12,7 +12,6 @@ use crate::tables::{Phase, Work};
 use memory::interface::Memory;
 use memory::word::VERSION_END;
 use protocol::call::Refusal;
-use protocol::lines::LineVec;
 use protocol::record::Line;
 
 // A word at this version can be read, and not written.
@@ -33,8 +32,8 @@ impl Work {
         ensures { Leaves self.new Open self.old.next [] [] }
     {
         self.phase = Phase::Open;
-        self.reads = LineVec::new();
-        self.writes = LineVec::new();
+        self.reads.clear();
+        self.writes.clear();
     }
 
     // The transaction is over.

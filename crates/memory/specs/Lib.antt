@@ -8,3 +8,4 @@ pub mod Requests
 pub mod Words
 pub mod Joining
 pub mod PackingLemmas
+pub mod Sizing

@@ -1,12 +1,11 @@
 ghost use Rattle.std.specs.Prelude.{◌≡◌, ℕ, ◌<◌, ◌≤◌, List, length, slice_set, Some};
 ghost use Rattle.memory.specs.declared.word.Word.{Word};
-ghost use Rattle.memory.specs.Words.{at, Proper};
+ghost use Rattle.memory.specs.Words.{at, Proper, look_at, lockable, locked, puttable, put_to, freeable, freed};
 ghost use Rattle.memory.specs.Changing.{Changes};
 
-use crate::interface::Memory;
 use crate::word::{VERSION_END, Word};
 
-// Words in a row, each read and written whole. Such a row is a memory, however it keeps its words.
+// Words in a row, each read and written whole. Such a row makes a memory, however it keeps its words.
 pub trait Store {
     ghost words: { Self → List Word };
 
@@ -24,8 +23,6 @@ pub trait Store {
         requires within { address < length (words self.old) }
         requires proper { Proper word }
         ensures { words self.new ≡ slice_set (words self.old) address word };
-
-    ghost sized: { (s : Self) → (1 ≤ length (words s)) × (length (words s) ≤ 65536) };
 
     ghost proper: { (s : Self) (a : ℕ) → Proper (at (words s) a) };
 }
@@ -46,39 +43,41 @@ fn change<S: Store, F: FnOnce(Word) -> Option<Word>>(store: &mut S, address: usi
     true
 }
 
-impl<S: Store> Memory for S {
-    ghost words = { S.Store.words };
-
-    ghost sized = { S.Store.sized };
-
-    ghost proper = { S.Store.proper };
-
-    fn size(&self) -> usize {
-        self.count()
+// What a memory of such a row does. Each make has an `impl` of its own that calls these, and not one `impl` for every store:
+// beside that one the check finds no single `impl` for a make of another crate, and does not cover a pair of pairs whose type
+// says something of its parts' words.
+pub(crate) fn look<S: Store>(store: &S, address: usize) -> Option<(u64, u8, u64)>
+    ensures { result ≡ look_at (S.Store.words store.now) address }
+{
+    if address >= store.count() {
+        return None;
     }
+    Some(store.word(address).into())
+}
 
-    fn look(&self, address: usize) -> Option<(u64, u8, u64)> {
-        if address >= self.count() {
-            return None;
-        }
-        Some(self.word(address).into())
-    }
+pub(crate) fn lock<S: Store>(store: &mut S, address: usize, version: u64, holder: u8) -> bool
+    ensures answer { result ≡ lockable (S.Store.words store.old) address version holder }
+    ensures after { S.Store.words store.new ≡ locked (S.Store.words store.old) address version holder }
+{
+    change(store, address, |w| {
+        w.is_free_at(version, holder).then(|| w.held_by(holder))
+    })
+}
 
-    fn lock(&mut self, address: usize, version: u64, holder: u8) -> bool {
-        change(self, address, |w| {
-            w.is_free_at(version, holder).then(|| w.held_by(holder))
-        })
-    }
+pub(crate) fn put<S: Store>(store: &mut S, address: usize, version: u64, value: u64) -> bool
+    ensures answer { result ≡ puttable (S.Store.words store.old) address version }
+    ensures after { S.Store.words store.new ≡ put_to (S.Store.words store.old) address version value }
+{
+    change(store, address, |_| {
+        (version < VERSION_END).then(|| Word::free(version, value))
+    })
+}
 
-    fn put(&mut self, address: usize, version: u64, value: u64) -> bool {
-        change(self, address, |_| {
-            (version < VERSION_END).then(|| Word::free(version, value))
-        })
-    }
-
-    fn free(&mut self, address: usize, holder: u8) -> bool {
-        change(self, address, |w| {
-            w.is_held_as(holder).then(|| w.held_by(0))
-        })
-    }
+pub(crate) fn free<S: Store>(store: &mut S, address: usize, holder: u8) -> bool
+    ensures answer { result ≡ freeable (S.Store.words store.old) address holder }
+    ensures after { S.Store.words store.new ≡ freed (S.Store.words store.old) address holder }
+{
+    change(store, address, |w| {
+        w.is_held_as(holder).then(|| w.held_by(0))
+    })
 }

@@ -1,3 +1,5 @@
+ghost use Rattle.std.specs.Prelude.{◌≤◌, ◌+◌, length};
+
 use crate::blank::Blank;
 use crate::cells::Cells;
 use crate::interface::Memory;
@@ -111,4 +113,58 @@ fn makes_answer_alike(rt: HostRuntime) -> Result<(), Fail> {
     assert!(rt; alike(&mut cells, &mut Packed::new(rt.alloc(), 3)?, &REQUESTS));
     assert!(rt; !alike(&mut cells, &mut Packed::new(rt.alloc(), 2)?, &REQUESTS));
     Ok(())
+}
+
+// A make as another crate may write it: its type says something of its parts' words.
+#[derive(Drop)]
+struct Backed<A: Memory, B: Memory> {
+    front: A,
+    back: B,
+    ghost few: { length (A.Memory.words front) + length (B.Memory.words back) ≤ 65536 },
+}
+
+impl<A: Memory, B: Memory> Memory for Backed<A, B> {
+    ghost words = { λ m. A.Memory.words m.front };
+
+    ghost sized = { λ m. A.Memory.sized m.front };
+
+    ghost proper = { λ m. A.Memory.proper m.front };
+
+    fn size(&self) -> usize {
+        self.front.size()
+    }
+
+    fn look(&self, address: usize) -> Option<(u64, u8, u64)> {
+        self.front.look(address)
+    }
+
+    fn lock(&mut self, address: usize, version: u64, holder: u8) -> bool {
+        self.front.lock(address, version, holder)
+    }
+
+    fn put(&mut self, address: usize, version: u64, value: u64) -> bool {
+        self.front.put(address, version, value)
+    }
+
+    fn free(&mut self, address: usize, holder: u8) -> bool {
+        self.front.free(address, holder)
+    }
+}
+
+fn back_of_pairs(pairs: &Backed<Backed<Cells, Packed>, Cells>) -> usize {
+    pairs.back.size() + pairs.front.back.size()
+}
+
+#[test]
+fn another_make_is_a_part_of_itself(rt: HostRuntime) -> Result<(), Fail> {
+    let front = Backed {
+        front: Cells::new(rt.alloc(), 3)?,
+        back: Packed::new(rt.alloc(), 5)?,
+    };
+    let mut pairs = Backed {
+        front,
+        back: Cells::new(rt.alloc(), 7)?,
+    };
+    assert_eq!(rt; back_of_pairs(&pairs), 12);
+    follows_rules(&rt, rt.alloc(), &mut pairs)
 }

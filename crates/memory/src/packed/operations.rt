@@ -7,8 +7,9 @@ ghost use Rattle.memory.specs.PackingLemmas.{unpacked-proper, unpacked-sized};
 
 use super::Packed;
 use super::bytes::{load, store};
+use crate::interface::Memory;
 use crate::make::{MakeError, Rejected, is_size};
-use crate::store::Store;
+use crate::store::{Store, free, lock, look, put};
 use crate::word::{VERSION_END, Word};
 use std::alloc::Global;
 
@@ -52,8 +53,6 @@ impl Packed {
 impl Store for Packed {
     ghost words = { packed_words };
 
-    ghost sized = { λ m. unpacked-sized m.bytes.items m.some m.few };
-
     ghost proper = { λ m. unpacked-proper m.bytes.items };
 
     fn count(&self) -> usize {
@@ -76,5 +75,34 @@ impl Store for Packed {
         let head = u64::from(word.holder) * VERSION_END + word.version;
         store(bytes, 16 * address, head);
         store(bytes, 16 * address + 8, word.value);
+    }
+}
+
+// The five functions of a store, by name.
+impl Memory for Packed {
+    ghost words = { packed_words };
+
+    ghost sized = { λ m. unpacked-sized m.bytes.items m.some m.few };
+
+    ghost proper = { λ m. unpacked-proper m.bytes.items };
+
+    fn size(&self) -> usize {
+        self.count()
+    }
+
+    fn look(&self, address: usize) -> Option<(u64, u8, u64)> {
+        look(self, address)
+    }
+
+    fn lock(&mut self, address: usize, version: u64, holder: u8) -> bool {
+        lock(self, address, version, holder)
+    }
+
+    fn put(&mut self, address: usize, version: u64, value: u64) -> bool {
+        put(self, address, version, value)
+    }
+
+    fn free(&mut self, address: usize, holder: u8) -> bool {
+        free(self, address, holder)
     }
 }

@@ -55,6 +55,13 @@ impl<const N: usize> LineVec<N> {
         true
     }
 
+    // Takes all lines out. No place is written: what lies past the first `len` does not count.
+    pub fn clear(&mut self)
+        ensures { listed self.new ≡ [] }
+    {
+        self.len = 0;
+    }
+
     // The first line with that address.
     pub fn find(&self, address: u16) -> Option<Line>
         ensures { result ≡ line_at address (listed self.now) }
